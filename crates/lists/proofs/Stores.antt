@@ -1,0 +1,73 @@
+-- A run of stores, `sets`, and a part: what is read inside and outside of the stores. Assumes nothing.
+use Prim.Native.Nat.{ℕ, zero, suc, _+_, _<_, _≤_}
+use native.Mathlib.Nat.{not-suc-le-zero, le-of-suc-le-suc, add-zero, zero-add, add-suc, suc-add, le-of-lt}
+use native.Mathlib.Numerals.{add-one}
+use native.Mathlib.Omega.{arith}
+use mathlib.Core.Logic.{_⊎_, inl, inr, ⊎-elim}
+use mathlib.Core.Path.{_≡_, refl, sym, ap, _∙_}
+use mathlib.Core.List.{List, [], _∷_, _++_, append-assoc}
+use lib.ListN.{length, set, getD, take, drop, length-take, length-drop, length-set}
+use lib.Seq.{getD-set-same, getD-set-other, take-nil, take-suc, length-take-le, take-set-le, drop-set-lt, take-at, drop-at, sets, sets-eq}
+use Rattle.lists.specs.Parts.{part}
+
+module _ {A : Type 0} where
+  pub length-part : (k n : ℕ) (xs : List A) → k + n ≤ length xs → length (part k n xs) ≡ n
+  length-part k n xs h = simp (length-take, length-drop) (omega arith)
+
+  -- below the length, what is read does not depend on the default
+  pub getD-any : (xs : List A) (i : ℕ) (d e : A) → i < length xs → getD xs i d ≡ getD xs i e
+  getD-any [] i d e h = absurd (not-suc-le-zero h)
+  getD-any (x ∷ xs) zero d e h = refl
+  getD-any (x ∷ xs) (suc i) d e h = getD-any xs i d e (le-of-suc-le-suc h)
+
+  -- ---- one run after another, and one store more
+  pub sets-append : (l : List A) (k : ℕ) (xs ys : List A) → sets l k (xs ++ ys) ≡ sets (sets l k xs) (k + length xs) ys
+  sets-append l k [] ys = rw add-zero
+  sets-append l k (a ∷ xs) ys = rw (add-suc, ← suc-add) (sets-append (set l k a) (suc k) xs ys)
+
+  pub sets-more : (l : List A) (k i : ℕ) (row : List A) (d : A) → i < length row
+      → set (sets l k (take i row)) (k + i) (getD row i d) ≡ sets l k (take (i + 1) row)
+  sets-more l k i row d h = rw (add-one, take-suc row i d h, sets-append, length-take-le i row (le-of-lt h))
+
+  -- ---- what lies before the stores, and what lies after them
+  pub take-sets : (n : ℕ) (l : List A) (k : ℕ) (vs : List A) → n ≤ k → take n (sets l k vs) ≡ take n l
+  take-sets n l k [] h = refl
+  take-sets n l k (a ∷ vs) h = take-sets n (set l k a) (suc k) vs (omega arith) ∙ take-set-le n l k a h
+
+  pub drop-sets : (n : ℕ) (l : List A) (k : ℕ) (vs : List A) → k + length vs ≤ n → drop n (sets l k vs) ≡ drop n l
+  drop-sets n l k [] h = refl
+  drop-sets n l k (a ∷ vs) h = drop-sets n (set l k a) (suc k) vs (omega arith) ∙ drop-set-lt n l k a (omega arith)
+
+  pub getD-sets : (i : ℕ) (l : List A) (k : ℕ) (vs : List A) (d : A) → (i < k) ⊎ (k + length vs ≤ i) → getD (sets l k vs) i d ≡ getD l i d
+  getD-sets i l k [] d h = refl
+  getD-sets i l k (a ∷ vs) d h =
+      getD-sets i (set l k a) (suc k) vs d (⊎-elim (λ (p : i < k). inl (omega arith)) (λ (p : k + suc (length vs) ≤ i). inr (omega arith)) h)
+      ∙ getD-set-other l k i a d (λ (e : i ≡ k). ⊎-elim (λ (p : i < k). omega arith) (λ (p : k + suc (length vs) ≤ i). omega arith) h)
+
+  -- ---- what was stored
+  pub getD-sets-at : (l : List A) (k j : ℕ) (vs : List A) (d : A) → j < length vs → k + j < length l → getD (sets l k vs) (k + j) d ≡ getD vs j d
+  getD-sets-at l k j [] d h g = absurd (not-suc-le-zero h)
+  getD-sets-at l k zero (a ∷ vs) d h g = rw add-zero (getD-sets k (set l k a) (suc k) vs d (inl (omega arith)) ∙ getD-set-same l k a d (omega arith))
+  getD-sets-at l k (suc j) (a ∷ vs) d h g = rw (add-suc, ← suc-add) (getD-sets-at (set l k a) (suc k) j vs d (omega arith) (rw length-set (omega arith)))
+
+  -- ---- a part before the stores, after them, and just where they are
+  part-swap : (k n : ℕ) (l : List A) → take n (drop k l) ≡ drop k (take (k + n) l)
+  part-swap zero n l = rw zero-add
+  part-swap (suc k) n [] = rw (take-nil n, take-nil (suc k + n))
+  part-swap (suc k) n (x ∷ l) = rw suc-add (part-swap k n l)
+
+  pub part-sets-before : (k n : ℕ) (l : List A) (j : ℕ) (vs : List A) → k + n ≤ j → part k n (sets l j vs) ≡ part k n l
+  part-sets-before k n l j vs h = part-swap k n (sets l j vs) ∙ ap (drop k) (take-sets (k + n) l j vs h) ∙ sym (part-swap k n l)
+
+  pub part-sets-after : (k n : ℕ) (l : List A) (j : ℕ) (vs : List A) → j + length vs ≤ k → part k n (sets l j vs) ≡ part k n l
+  part-sets-after k n l j vs h = ap (take n) (drop-sets k l j vs h)
+
+  pub part-sets-same : (k n : ℕ) (l vs : List A) → length vs ≡ n → k + n ≤ length l → part k n (sets l k vs) ≡ vs
+  part-sets-same k n l vs e h =
+      let h′ : k + length vs ≤ length l = omega arith in
+      rw (
+        sets-eq vs l k h′,
+        append-assoc,
+        drop-at (take k l) (vs ++ drop (k + length vs) l) k (length-take-le k l (omega arith)),
+        take-at vs (drop (k + length vs) l) n e,
+      )
