@@ -1,0 +1,208 @@
+-- The laws of `rounded`, the rounding by fractions: sign, order, values that it keeps, distance from the value, and where it overflows. Assumes nothing.
+use mathlib.Core.Path.{_≡_, refl, sym, ap, _∙_, subst}
+use mathlib.Core.Bool.{Bool, true, false, _&&_, cond}
+use Prim.Native.Nat.{ℕ, zero, suc, _+_, _-_, _*_, _/_, _%_, _^_, _≤_, _<_}
+use native.Mathlib.Nat.{le-trans, le-of-eq, le-of-suc-le-suc, lt-of-lt-of-le, lt-of-not-le, lt-irrefl, not-le-of-lt, zero-lt-suc, zero-mul, one-mul, mul-one, add-mul, mul-assoc, mul-comm, mul-right-comm, mul-pos, mul-le-mul-left, mul-le-mul-right, mul-lt-mul-of-pos-right, lt-of-mul-lt-mul-right, div-lt-iff-lt-mul}
+use native.Mathlib.Omega.{arith}
+use lib.Dec.{T, leb, ltb, eqb, eqb→eq, ltb→lt, leb→le, lit<, lit≤}
+use lib.IntN.{ℤ, pos, negsuc}
+use lib.Pow.{pow-add, pow-pos, pow-mono, pow-lt}
+use lib.Ieee.{Float, nan, inf, fin, binary32, binary64, up, down, size, odd, units, round, neg, le, fits}
+use lib.Ieee.Digits.{back, size-le}
+use lib.Ieee.Fits.{up-pos, down-pos, and-l, and-r, round-is, round-fits}
+use lib.Ieee.Exact.{HasValue, odd-sign, units-val, round-exact}
+use lib.Ieee.Order.{drop, kept, round-mono}
+use lib.Ieee.Scale.{grid, finite}
+use Rattle.rounding.specs.Narrow.{rounded}
+use Rattle.rounding.proofs.Closest.{closest-half}
+use Rattle.rounding.proofs.Units.{value-unique}
+use Rattle.rounding.proofs.Signs.{round-neg, round-signed, below-or-equal, neg-le, least, greatest, opposite-le}
+
+-- ---- the sign
+pub rounded-neg : (x : Float) → rounded (neg x) ≡ neg (rounded x)
+unfolding rounded neg
+rounded-neg nan = refl
+rounded-neg (inf s) = refl
+rounded-neg (fin s m e) = round-neg binary32 s (m * up e) (down e)
+
+-- ---- what an f32 holds is unchanged
+-- an exponent of at least -149: m * 2 ^ e is m * 2 ^ j units of 2 ^ -149
+in-units : (e : ℤ) → down e ≤ 2 ^ 149 → (j : ℕ) × ((m : ℕ) → m * up e * 2 ^ 149 ≡ m * 2 ^ j * down e)
+in-units (pos a) h = (a + 149, λ m. mul-assoc m (2 ^ a) (2 ^ 149) ∙ ap (λ (x : ℕ). m * x) (sym (pow-add 2 a 149)) ∙ sym (mul-one (m * 2 ^ (a + 149))))
+in-units (negsuc a) h =
+    let l : suc a ≤ 149 = le-of-suc-le-suc (lt-of-not-le (λ (g : 150 ≤ suc a). not-le-of-lt (pow-lt {i = 149} g) h)) in (
+      149 - suc a,
+      λ m.
+          ap (λ (x : ℕ). x * 2 ^ 149) (mul-one m)
+          ∙ ap (λ (x : ℕ). m * x) (ap (λ (x : ℕ). 2 ^ x) (sym (back 149 (suc a) l)) ∙ pow-add 2 (149 - suc a) (suc a))
+          ∙ sym (mul-assoc m (2 ^ (149 - suc a)) (2 ^ suc a)),
+    )
+
+finite-kept : (s : Bool) (m : ℕ) (e : ℤ) → T (fits binary32 (fin s m e)) → m < 2 ^ 24 → down e ≤ 2 ^ 149 → m * up e < 2 ^ 128 * down e
+    → rounded (fin s m e) ≡ fin s m e
+unfolding rounded
+finite-kept s m e f a b c =
+    let j = in-units e b .0 in
+    let v = in-units e b .1 m in
+    let l : m * up e * 2 ^ 149 < 2 ^ 277 * down e =
+    lt-of-lt-of-le (mul-lt-mul-of-pos-right c (pow-pos 149)) (le-of-eq (mul-right-comm (2 ^ 128) (down e) (2 ^ 149))) in
+    let top : m * 2 ^ j < 2 ^ 277 = lt-of-mul-lt-mul-right (down e) (subst (λ (x : ℕ). x < 2 ^ 277 * down e) v l) in
+    value-unique (round binary32 s (m * up e) (down e)) (fin s m e) s (m * up e) (down e) (down-pos e)
+    (round-fits binary32 s (m * up e) (down e)) f
+    (round-exact binary32 s (m * up e) (down e) m j (down-pos e) a top v) (refl, refl)
+
+-- a zero is written with the exponent 0
+zero-exponent : (e : ℤ) → up e * down e ≡ 1 → down e ≤ 2 ^ 149
+zero-exponent (pos a) h = pow-pos 149
+zero-exponent (negsuc a) h = le-trans (le-of-eq (sym (one-mul (2 ^ suc a)) ∙ h)) (pow-pos 149)
+
+pub rounded-keeps : (x : Float) → T (fits binary32 x) → rounded x ≡ x
+unfolding fits
+rounded-keeps nan f = unfold rounded in refl
+rounded-keeps (inf s) f = unfold rounded in refl
+rounded-keeps (fin s zero e) f =
+    finite-kept s zero e f (lit< tt) (zero-exponent e (eqb→eq (up e * down e) 1 f))
+    (subst (λ (x : ℕ). x < 2 ^ 128 * down e) (sym (zero-mul (up e))) (mul-pos (pow-pos 128) (down-pos e)))
+rounded-keeps (fin s (suc m) e) f =
+    let A = eqb (suc m % 2) 1 in
+    let B = ltb (suc m) (2 ^ 24) in
+    let C = leb (down e) (2 ^ 149) in
+    let D = ltb (suc m * up e) (2 ^ 128 * down e) in
+    finite-kept s (suc m) e f
+    (ltb→lt (suc m) (2 ^ 24) (and-r A B (and-l (A && B) C (and-l (A && B && C) D f))))
+    (leb→le (down e) (2 ^ 149) (and-r (A && B) C (and-l (A && B && C) D f)))
+    (ltb→lt (suc m * up e) (2 ^ 128 * down e) (and-r (A && B && C) D f))
+
+-- ---- the order
+-- a value that is not negative is at most a negative one only where both are zeros
+no-zero : (m : ℕ) (e d : ℤ) → suc m * up e * down d ≡ 0 → ⊥
+no-zero m e d h = lt-irrefl 0 (subst (λ (x : ℕ). 0 < x) h (mul-pos (mul-pos (zero-lt-suc m) (up-pos e)) (down-pos d)))
+
+zeros : (m : ℕ) (e : ℤ) (n : ℕ) (d : ℤ) → T (fits binary64 (fin false m e)) → T (fits binary64 (fin true n d)) → T (le (fin false m e) (fin true n d))
+    → (rounded (fin false m e) ≡ fin false m e) × (rounded (fin true n d) ≡ fin true n d)
+unfolding le fits
+zeros zero e zero d f g h = (rounded-keeps (fin false zero e) f, rounded-keeps (fin true zero d) g)
+zeros zero e (suc n) d f g h =
+    let A = zero * up e * down d in
+    let B = suc n * up d * down e in
+    absurd (no-zero n d e (sym (eqb→eq A B (and-l (eqb A B) (eqb A 0) h)) ∙ eqb→eq A 0 (and-r (eqb A B) (eqb A 0) h)))
+zeros (suc m) e n d f g h =
+    let A = suc m * up e * down d in
+    absurd (no-zero m e d (eqb→eq A 0 (and-r (eqb A (n * up d * down e)) (eqb A 0) h)))
+
+pub rounded-mono : (x y : Float) → T (fits binary64 x) → T (fits binary64 y) → T (le x y) → T (le (rounded x) (rounded y))
+unfolding rounded le neg
+rounded-mono nan y f g h = absurd h
+rounded-mono (inf s) nan f g h = absurd h
+rounded-mono (inf s) (inf t) f g h = h
+rounded-mono (inf true) (fin t n d) f g h = least t (round binary32 t (n * up d) (down d)) (round-signed binary32 t (n * up d) (down d))
+rounded-mono (inf false) (fin t n d) f g h = absurd h
+rounded-mono (fin s m e) nan f g h = absurd h
+rounded-mono (fin s m e) (inf true) f g h = absurd h
+rounded-mono (fin s m e) (inf false) f g h = greatest s (round binary32 s (m * up e) (down e)) (round-signed binary32 s (m * up e) (down e))
+rounded-mono (fin false m e) (fin false n d) f g h =
+    round-mono binary32 (m * up e) (down e) (n * up d) (down d) (down-pos e) (down-pos d) (below-or-equal (m * up e * down d) (n * up d * down e) h)
+rounded-mono (fin true m e) (fin true n d) f g h =
+    let p = round binary32 false (m * up e) (down e) in
+    let q = round binary32 false (n * up d) (down d) in
+    let l : n * up d * down e ≤ m * up e * down d = below-or-equal (n * up d * down e) (m * up e * down d) (neg-le (fin true m e) (fin true n d) h) in
+    subst (λ (v : Float). T (le v (round binary32 true (n * up d) (down d)))) (sym (round-neg binary32 false (m * up e) (down e)))
+    (subst (λ (v : Float). T (le (neg p) v)) (sym (round-neg binary32 false (n * up d) (down d)))
+    (neg-le q p (round-mono binary32 (n * up d) (down d) (m * up e) (down e) (down-pos d) (down-pos e) l)))
+rounded-mono (fin true m e) (fin false n d) f g h =
+    opposite-le (round binary32 true (m * up e) (down e)) (round binary32 false (n * up d) (down d))
+    (round-signed binary32 true (m * up e) (down e)) (round-signed binary32 false (n * up d) (down d))
+rounded-mono (fin false m e) (fin true n d) f g h =
+    let z = zeros m e n d f g h in
+    subst (λ (v : Float). T (le v (rounded (fin true n d)))) (sym (z .0)) (subst (λ (v : Float). T (le (fin false m e) v)) (sym (z .1)) h)
+
+-- ---- the distance from the value
+-- `grid` is a / c rounded, in units of 2 ^ -149: at most half of 2 ^ k from it, where k digits of its whole part are dropped
+pub grid-half : (a c : ℕ) → 0 < c
+    → (2 * (grid binary32 a c * c) ≤ 2 * (a * 2 ^ 149) + c * 2 ^ (size (a * 2 ^ 149 / c) - 24))
+    × (2 * (a * 2 ^ 149) ≤ 2 * (grid binary32 a c * c) + c * 2 ^ (size (a * 2 ^ 149 / c) - 24))
+grid-half a c C =
+    let n = a * 2 ^ 149 in
+    let k = drop 24 n c in
+    let q = kept 24 n c in
+    let e : q * (c * 2 ^ k) ≡ q * 2 ^ k * c =
+    ap (λ (x : ℕ). q * x) (mul-comm c (2 ^ k)) ∙ sym (mul-assoc q (2 ^ k) c) in
+    subst (λ (x : ℕ). (2 * x ≤ 2 * n + c * 2 ^ k) × (2 * n ≤ 2 * x + c * 2 ^ k)) e (closest-half n (c * 2 ^ k) (mul-pos C (pow-pos k)))
+
+units-value : (s : Bool) (q k : ℕ) → T (finite (units binary32 s q k)) → HasValue (units binary32 s q k) s (q * 2 ^ k) (2 ^ 149)
+unfolding units
+units-value s q k = go (ltb (q * 2 ^ k) (2 ^ 277))
+  where
+    go : (b : Bool) → T (finite (cond b (odd 25 s q k 149) (inf s))) → HasValue (cond b (odd 25 s q k 149) (inf s)) s (q * 2 ^ k) (2 ^ 149)
+    go true t = odd-sign 25 s q k 149
+    go false t = absurd t
+
+pub round-value : (s : Bool) (a c : ℕ) → T (finite (round binary32 s a c)) → HasValue (round binary32 s a c) s (grid binary32 a c) (2 ^ 149)
+round-value s a c =
+    subst (λ (v : Float). T (finite v) → HasValue v s (grid binary32 a c) (2 ^ 149)) (sym (round-is binary32 s a c))
+    (units-value s (kept 24 (a * 2 ^ 149) c) (drop 24 (a * 2 ^ 149) c))
+
+-- ---- where it overflows
+value-finite : (x : Float) (s : Bool) (a c : ℕ) → HasValue x s a c → T (finite x)
+value-finite nan s a c h = absurd h
+value-finite (inf t) s a c h = absurd h
+value-finite (fin t m e) s a c h = tt
+
+-- below 2 ^ 128 - 2 ^ 103 no more than 253 digits are dropped, and half of 2 ^ 253 is not enough to reach 2 ^ 277
+grid-under : (a c : ℕ) → 0 < c → a < (2 ^ 128 - 2 ^ 103) * c → grid binary32 a c < 2 ^ 277
+grid-under a c C h =
+    let n = a * 2 ^ 149 in
+    let t = (2 ^ 128 - 2 ^ 103) * 2 ^ 149 in
+    let l : n < t * c =
+    lt-of-lt-of-le (mul-lt-mul-of-pos-right h (pow-pos 149)) (le-of-eq (mul-right-comm (2 ^ 128 - 2 ^ 103) c (2 ^ 149))) in
+    let z : size (n / c) ≤ 277 =
+    size-le (n / c) 277 (div-lt-iff-lt-mul C .1 (lt-of-lt-of-le l (mul-le-mul-right c (lit≤ tt)))) in
+    let u : c * 2 ^ (size (n / c) - 24) ≤ c * 2 ^ 253 = mul-le-mul-left c (pow-mono {j = 253} (few (size (n / c)) z)) in
+    lt-of-mul-lt-mul-right c (short (grid-half a c C .0) u l (sum t (2 ^ 253) (2 ^ 277) refl))
+  where
+    few : (z : ℕ) → z ≤ 277 → z - 24 ≤ 253
+    few z h = omega arith
+
+    sum : (t u w : ℕ) → 2 * t + u ≡ 2 * w → 2 * (t * c) + c * u ≡ 2 * (w * c)
+    sum t u w e =
+        ap (λ (x : ℕ). x + c * u) (sym (mul-assoc 2 t c))
+        ∙ ap (λ (x : ℕ). 2 * t * c + x) (mul-comm c u)
+        ∙ sym (add-mul (2 * t) u c)
+        ∙ ap (λ (x : ℕ). x * c) e
+        ∙ mul-assoc 2 w c
+
+    short : {g n u v t w : ℕ} → 2 * g ≤ 2 * n + u → u ≤ v → n < t → 2 * t + v ≡ 2 * w → g < w
+    short h i j k = omega arith
+
+pub round-finite : (s : Bool) (a c : ℕ) → 0 < c → a < (2 ^ 128 - 2 ^ 103) * c → T (finite (round binary32 s a c))
+round-finite s a c C h =
+    let q = kept 24 (a * 2 ^ 149) c in
+    let k = drop 24 (a * 2 ^ 149) c in
+    subst (λ (v : Float). T (finite v)) (sym (round-is binary32 s a c))
+    (value-finite (units binary32 s q k) s (q * 2 ^ k) (2 ^ 149) (units-val binary32 s q k (grid-under a c C h)))
+
+-- the least magnitude that gives an infinity, and any above it
+threshold : round binary32 false (2 ^ 128 - 2 ^ 103) 1 ≡ inf false
+unfolding round
+threshold = refl
+
+only-infinity : (x : Float) → T (le (inf false) x) → x ≡ inf false
+unfolding le
+only-infinity nan h = absurd h
+only-infinity (inf true) h = absurd h
+only-infinity (inf false) h = refl
+only-infinity (fin s m e) h = absurd h
+
+pub round-infinite : (s : Bool) (a c : ℕ) → 0 < c → (2 ^ 128 - 2 ^ 103) * c ≤ a → round binary32 s a c ≡ inf s
+unfolding neg
+round-infinite s a c C h = go s
+  where
+    positive : round binary32 false a c ≡ inf false
+    positive =
+        only-infinity (round binary32 false a c)
+        (subst (λ (v : Float). T (le v (round binary32 false a c))) threshold
+        (round-mono binary32 (2 ^ 128 - 2 ^ 103) 1 a c (zero-lt-suc 0) C (le-trans h (le-of-eq (sym (mul-one a))))))
+
+    go : (s : Bool) → round binary32 s a c ≡ inf s
+    go false = positive
+    go true = round-neg binary32 false a c ∙ ap neg positive
