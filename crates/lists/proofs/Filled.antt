@@ -7,8 +7,9 @@ use native.Mathlib.Numerals.{add-one}
 use native.Mathlib.Omega.{arith}
 use native.Mathlib.Decide.{ℕ-discrete}
 use lib.ListN.{length, getD, take, drop, set, length-set}
-use lib.Seq.{take-all, getD-set-same, getD-set-other}
-use Rattle.lists.specs.Parts.{upto, filled}
+use lib.Seq.{take-all, getD-set-same, getD-set-other, getD-take, getD-drop, ext-getD}
+use Rattle.lists.specs.Parts.{part, upto, filled}
+use Rattle.lists.proofs.Stores.{length-part}
 
 -- ---- f of each of a list's elements in front of another
 module _ {A B : Type 0} (f : A → B) where
@@ -58,3 +59,16 @@ module _ {A : Type 0} (f : ℕ → A) where
       go : Dec (i ≡ n) → (i < n → getD (upto n f xs) i d ≡ f i) → getD (set (upto n f xs) n (f n)) i d ≡ f i
       go (yes e) ih = rw e (getD-set-same (upto n f xs) n (f n) d (omega (arith, length-upto n xs)))
       go (no e) ih = getD-set-other (upto n f xs) n i (f n) d e ∙ ih (omega arith)
+
+-- a part that is read place by place
+pub upto-part : {A : Type 0} (k n : ℕ) (xs zs : List A) (d : A) → k + n ≤ length xs → length zs ≡ n → upto n (λ (i : ℕ). getD xs (k + i) d) zs ≡ part k n xs
+upto-part {A} k n xs zs d h e =
+    ext-getD d (upto n f zs) (part k n xs) (length-upto f n zs ∙ e ∙ sym (length-part k n xs h)) each
+  where
+    f : ℕ → A
+    f i = getD xs (k + i) d
+
+    each : (i : ℕ) → i < length (upto n f zs) → getD (upto n f zs) i d ≡ getD (part k n xs) i d
+    each i l =
+        let l′ : i < n = omega (arith, length-upto f n zs) in
+        upto-at f n zs i d l′ (omega arith) ∙ sym (getD-take n (drop k xs) i d l′ ∙ getD-drop k xs i d)

@@ -7,12 +7,18 @@ use mathlib.Core.Logic.{_⊎_, inl, inr, ⊎-elim}
 use mathlib.Core.Path.{_≡_, refl, sym, ap, _∙_}
 use mathlib.Core.List.{List, [], _∷_, _++_, append-assoc}
 use lib.ListN.{length, set, getD, take, drop, length-take, length-drop, length-set}
-use lib.Seq.{getD-set-same, getD-set-other, take-nil, take-suc, length-take-le, take-set-le, drop-set-lt, take-at, drop-at, sets, sets-eq}
+use lib.Seq.{getD-set-same, getD-set-other, take-nil, take-suc, take-take, length-take-le, take-set-le, drop-set-lt, take-at, take-all, drop-at, sets, sets-eq, length-sets}
 use Rattle.lists.specs.Parts.{part}
 
 module _ {A : Type 0} where
   pub length-part : (k n : ℕ) (xs : List A) → k + n ≤ length xs → length (part k n xs) ≡ n
   length-part k n xs h = simp (length-take, length-drop) (omega arith)
+
+  pub part-take : (k n m : ℕ) (xs : List A) → k + n ≤ m → part k n (take m xs) ≡ part k n xs
+  part-take zero n m xs h = take-take n m xs (omega arith)
+  part-take (suc k) n zero xs h = absurd (omega arith)
+  part-take (suc k) n (suc m) [] h = refl
+  part-take (suc k) n (suc m) (x ∷ xs) h = part-take k n m xs (omega arith)
 
   -- below the length, what is read does not depend on the default
   pub getD-any : (xs : List A) (i : ℕ) (d e : A) → i < length xs → getD xs i d ≡ getD xs i e
@@ -28,6 +34,17 @@ module _ {A : Type 0} where
   pub sets-more : (l : List A) (k i : ℕ) (row : List A) (d : A) → i < length row
       → set (sets l k (take i row)) (k + i) (getD row i d) ≡ sets l k (take (i + 1) row)
   sets-more l k i row d h = rw (add-one, take-suc row i d h, sets-append, length-take-le i row (le-of-lt h))
+
+  -- a loop that stores `row` from place k on, after i turns: one turn more, the area's length, and all of the row
+  pub stores-turn : {area : List A} (l row : List A) (k i : ℕ) (d : A) {v : A} → area ≡ sets l k (take i row) → i < length row → v ≡ getD row i d
+      → set area (k + i) v ≡ sets l k (take (i + 1) row)
+  stores-turn l row k i d e h p = rw (e, p) (sets-more l k i row d h)
+
+  pub stores-length : {area : List A} (l row : List A) (k i : ℕ) → area ≡ sets l k (take i row) → length area ≡ length l
+  stores-length l row k i e = ap length e ∙ length-sets l k (take i row)
+
+  pub stores-all : {area : List A} (l row : List A) (k i : ℕ) → area ≡ sets l k (take i row) → length row ≤ i → area ≡ sets l k row
+  stores-all l row k i e h = e ∙ ap (sets l k) (take-all i row h)
 
   -- ---- what lies before the stores, and what lies after them
   pub take-sets : (n : ℕ) (l : List A) (k : ℕ) (vs : List A) → n ≤ k → take n (sets l k vs) ≡ take n l
