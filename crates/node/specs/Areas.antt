@@ -1,0 +1,73 @@
+-- The nodes in the lent areas of document 01's section "Node", and the test of number 14. Definitions only.
+use Prim.Native.Nat.{ℕ, zero, suc, _+_, _*_, _≤_}
+use mathlib.Core.Bool.{Bool, false, _||_}
+use mathlib.Core.List.{List, [], _∷_, _++_}
+use lib.Dec.{ltb}
+use lib.ListN.{length, getD}
+use lib.Seq.{sets}
+use lib.Ieee.{Float}
+use Rattle.lists.specs.Parts.{part}
+use Rattle.node.specs.Sizes.{maxValues, nodeFloats, nodeWords, maxRamp}
+use Rattle.node.specs.declared.Node.{Node}
+
+-- the areas have the floats and the words of the first count nodes
+abbrev pub Room : ℕ → List Float → List ℕ → Type 0
+Room count floats words = (count * nodeFloats ≤ length floats) × (count * nodeWords ≤ length words)
+
+-- ---- reading: "72 floats (cur, target, step) and three u32 (id, len, left)"
+
+abbrev pub idAt : List ℕ → ℕ → ℕ
+idAt words n = getD words (n * nodeWords) 0
+
+abbrev pub lenAt : List ℕ → ℕ → ℕ
+lenAt words n = getD words (n * nodeWords + 1) 0
+
+abbrev pub leftAt : List ℕ → ℕ → ℕ
+leftAt words n = getD words (n * nodeWords + 2) 0
+
+-- node n, from 0
+unfoldable pub nodeAt : List Float → List ℕ → ℕ → Node
+nodeAt floats words n =
+    record {
+      id = idAt words n;
+      len = lenAt words n;
+      cur = part (n * nodeFloats) maxValues floats;
+      target = part (n * nodeFloats + maxValues) maxValues floats;
+      step = part (n * nodeFloats + 2 * maxValues) maxValues floats;
+      left = leftAt words n;
+    }
+
+-- the first count nodes
+unfoldable pub nodes : ℕ → List Float → List ℕ → List Node
+nodes zero floats words = []
+nodes (suc n) floats words = nodes n floats words ++ (nodeAt floats words n ∷ [])
+
+-- ---- storing
+
+unfoldable pub floatsOf : Node → List Float
+floatsOf node = node .cur ++ node .target ++ node .step
+
+unfoldable pub wordsOf : Node → List ℕ
+wordsOf node = node .id ∷ node .len ∷ node .left ∷ []
+
+-- the areas with node n replaced
+abbrev pub storedFloats : List Float → ℕ → Node → List Float
+storedFloats floats n node = sets floats (n * nodeFloats) (floatsOf node)
+
+abbrev pub storedWords : List ℕ → ℕ → Node → List ℕ
+storedWords words n node = sets words (n * nodeWords) (wordsOf node)
+
+-- ---- number 14: "any lent node, used or not, new or old, with len above 24 or left above 16,777,216"
+
+unfoldable pub badNode : Node → Bool
+badNode node = ltb maxValues (node .len) || ltb maxRamp (node .left)
+
+-- what the test lets pass
+pub record InRange (node : Node) : Type 0 where
+  pub len : node .len ≤ maxValues
+  pub left : node .left ≤ maxRamp
+
+-- one of the first count nodes is bad, which its words alone decide
+unfoldable pub someBad : List ℕ → ℕ → Bool
+someBad words zero = false
+someBad words (suc n) = someBad words n || badNode (nodeAt [] words n)

@@ -1,0 +1,235 @@
+// The smoothed values of one node of a mix plan, one gain of it, and a node in its lent areas.
+// All of it is for the crates above and not the interface: a function that has a `requires` says in its comment what it takes.
+ghost use mathlib.Core.Path.{_≡_};
+ghost use Prim.Native.Nat.{_+_, _*_, _<_, _≤_, min};
+ghost use lib.ListN.{length};
+ghost use lib.Seq.{sets};
+ghost use Rattle.lists.specs.Parts.{part};
+ghost use Rattle.node.specs.Sizes.{maxValues, nodeWords, maxRamp};
+ghost use Rattle.node.specs.Nodes.{withTarget, atTarget, startRamp, newNode, setNode, finishBlock, gainOf, factor};
+ghost use Rattle.node.specs.Areas.{Room, nodeAt, storedFloats, storedWords, someBad};
+
+pub struct Node {
+    pub id: u32,
+    // How many values it has: at most MAX, but for a bad node of the lent areas.
+    pub len: u32,
+    pub cur: [f32; Node::MAX],
+    pub target: [f32; Node::MAX],
+    // What cur gains with each sample of a ramp.
+    pub step: [f32; Node::MAX],
+    // The samples of the ramp that are left; at 0 the node is at rest.
+    pub left: u32,
+}
+
+// One gain of a node: at rest, with its target, or ramping, with cur, step, target and left.
+pub enum Gain {
+    Rest(f32),
+    Moving(f32, f32, f32, u32),
+}
+
+fn smaller(a: usize, b: usize) -> usize
+    ensures { λ r. ⌜ r ≡ min a b ⌝ }
+{
+    if a < b { a } else { b }
+}
+
+impl Node {
+    pub const MAX: usize = 24;
+
+    // Of a node in the lent areas.
+    pub const FLOATS: usize = 72;
+
+    pub const WORDS: usize = 3;
+
+    // In samples: an f32 holds every whole number up to it.
+    pub const MAX_RAMP: u32 = 16_777_216;
+
+    // A node at zero, set to `values`. Requires a ramp that is not too long.
+    pub fn new(id: u32, values: &[f32], ramp: u32) -> Node
+        requires { ⌜ ramp ≤ maxRamp ⌝ }
+        ensures { λ r. ⌜ r ≡ newNode id (now (values .entry)) ramp ⌝ }
+    {
+        let zeros = [0.0f32; Node::MAX];
+        let node = Node {
+            id,
+            len: smaller(values.len(), Node::MAX) as u32,
+            cur: zeros,
+            target: zeros,
+            step: zeros,
+            left: 0,
+        };
+        node.set(values, ramp)
+    }
+
+    // Ramps to `values` over `ramp` samples; at 0 it is there at once. Requires a len of at most MAX, and a ramp that is not too long.
+    pub fn set(self, values: &[f32], ramp: u32) -> Node
+        requires { ⌜ (self .len ≤ maxValues) × (ramp ≤ maxRamp) ⌝ }
+        ensures { λ r. ⌜ r ≡ setNode self (now (values .entry)) ramp ⌝ }
+    {
+        let node = self.with_target(values);
+        if ramp == 0 {
+            return node.at_target();
+        }
+        node.start_ramp(ramp)
+    }
+
+    // Requires a len of at most MAX.
+    fn with_target(mut self, values: &[f32]) -> Node
+        requires { ⌜ self .len ≤ maxValues ⌝ }
+        ensures { λ r. ⌜ r ≡ withTarget self (now (values .entry)) ⌝ }
+    {
+        let n = smaller(self.len as usize, values.len());
+        for i in 0..n {
+            self.target[i] = values[i];
+        }
+        self
+    }
+
+    fn at_target(mut self) -> Node
+        ensures { λ r. ⌜ r ≡ atTarget self ⌝ }
+    {
+        let target = self.target;
+        self.cur = target;
+        self.left = 0;
+        self
+    }
+
+    // Requires a len of at most MAX, and a ramp that is not too long.
+    fn start_ramp(mut self, ramp: u32) -> Node
+        requires { ⌜ (self .len ≤ maxValues) × (ramp ≤ maxRamp) ⌝ }
+        ensures { λ r. ⌜ r ≡ startRamp self ramp ⌝ }
+    {
+        let end = self.len as usize;
+        for i in 0..end {
+            self.step[i] = (self.target[i] - self.cur[i]) / ramp as f32;
+        }
+        self.left = ramp;
+        self
+    }
+
+    // The end of a step's block. Requires a len of at most MAX, and a block no longer than the longest ramp.
+    pub fn finish_block(mut self, block: usize) -> Node
+        requires { ⌜ (self .len ≤ maxValues) × (block ≤ maxRamp) ⌝ }
+        ensures { λ r. ⌜ r ≡ finishBlock self block ⌝ }
+    {
+        if self.left == 0 {
+            return self;
+        }
+        let n = smaller(block, self.left as usize) as u32;
+        self.left = self.left - n;
+        if self.left == 0 {
+            return self.at_target();
+        }
+        let len = self.len as usize;
+        for i in 0..len {
+            self.cur[i] = self.cur[i] + self.step[i] * n as f32;
+        }
+        self
+    }
+
+    // Gain i, also past len. Requires a place of the rows.
+    pub fn gain(self, i: usize) -> Gain
+        requires { ⌜ i < maxValues ⌝ }
+        ensures { λ r. ⌜ r ≡ gainOf self i ⌝ }
+    {
+        if self.left == 0 {
+            Gain::Rest(self.target[i])
+        } else {
+            Gain::Moving(self.cur[i], self.step[i], self.target[i], self.left)
+        }
+    }
+}
+
+impl Gain {
+    // The gain at sample k of the coming block. Requires a k below the longest ramp, so that an f32 holds k + 1.
+    pub fn factor(self, k: usize) -> f32
+        requires { ⌜ k < maxRamp ⌝ }
+        ensures { λ r. ⌜ r ≡ factor self k ⌝ }
+    {
+        match self {
+            Gain::Rest(target) => target,
+            Gain::Moving(cur, step, target, left) => {
+                if k < left as usize {
+                    cur + step * (k + 1) as f32
+                } else {
+                    target
+                }
+            }
+        }
+    }
+}
+
+// Requires floats that reach past the row.
+fn load_row(floats: &[f32], at: usize) -> [f32; Node::MAX]
+    requires { ⌜ at + maxValues ≤ length (now floats) ⌝ }
+    ensures { λ r. ⌜ r ≡ part at maxValues (now (floats .entry)) ⌝ }
+{
+    let mut row = [0.0f32; Node::MAX];
+    for i in 0..Node::MAX {
+        row[i] = floats[at + i];
+    }
+    row
+}
+
+// Requires floats that reach past the row.
+fn store_row(row: [f32; Node::MAX], floats: &mut [f32], at: usize)
+    requires { ⌜ at + maxValues ≤ length (now floats) ⌝ }
+    ensures { λ _. ⌜ now (floats .exit) ≡ sets (now (floats .entry)) at row ⌝ }
+{
+    for i in 0..Node::MAX {
+        floats[at + i] = row[i];
+    }
+}
+
+// Node n of the lent areas, whatever they hold. Requires areas that reach past it.
+pub fn load(floats: &[f32], words: &[u32], n: usize) -> Node
+    requires { ⌜ Room (n + 1) (now floats) (now words) ⌝ }
+    ensures { λ r. ⌜ r ≡ nodeAt (now (floats .entry)) (now (words .entry)) n ⌝ }
+{
+    let at = n * Node::FLOATS;
+    let cur = load_row(floats, at);
+    let target = load_row(floats, at + Node::MAX);
+    let step = load_row(floats, at + 2 * Node::MAX);
+    let w = n * Node::WORDS;
+    Node {
+        id: words[w],
+        len: words[w + 1],
+        cur,
+        target,
+        step,
+        left: words[w + 2],
+    }
+}
+
+// Makes `node` the node n of the lent areas. Requires areas that reach past it.
+pub fn store(node: Node, floats: &mut [f32], words: &mut [u32], n: usize)
+    requires { ⌜ Room (n + 1) (now floats) (now words) ⌝ }
+    ensures floats { λ _. ⌜ now (floats .exit) ≡ storedFloats (now (floats .entry)) n node ⌝ }
+    ensures words { λ _. ⌜ now (words .exit) ≡ storedWords (now (words .entry)) n node ⌝ }
+{
+    let at = n * Node::FLOATS;
+    let cur = node.cur;
+    let target = node.target;
+    let step = node.step;
+    store_row(cur, floats, at);
+    store_row(target, floats, at + Node::MAX);
+    store_row(step, floats, at + 2 * Node::MAX);
+    let w = n * Node::WORDS;
+    words[w] = node.id;
+    words[w + 1] = node.len;
+    words[w + 2] = node.left;
+}
+
+// The test of number 14 over the first `count` lent nodes, and its only place. Requires that `words` has all of theirs.
+pub fn any_bad(words: &[u32], count: usize) -> bool
+    requires { ⌜ count * nodeWords ≤ length (now words) ⌝ }
+    ensures { λ r. ⌜ r ≡ someBad (now (words .entry)) count ⌝ }
+{
+    for i in 0..count {
+        let w = i * Node::WORDS;
+        if (words[w + 1] > Node::MAX as u32) | (words[w + 2] > Node::MAX_RAMP) {
+            return true;
+        }
+    }
+    false
+}
