@@ -5,7 +5,7 @@ use mathlib.Core.Bool.{false}
 use mathlib.Core.List.{List, map}
 use Prim.Native.Nat.{ℕ}
 use lib.Dec.{T}
-use lib.Ieee.{Float, binary64, round, add, mul, div, neg, lt, ofBits, isNan, toBits}
+use lib.Ieee.{round, add, mul, div, neg, lt, ofBits, isNan, toBits}
 use Rattle.lists.proofs.Tables.{every}
 use Rattle.rounding.specs.Narrow.{pattern, narrowedBits, narrowed}
 use Rattle.format.specs.Formats.{labels, channels, indexOf, has}

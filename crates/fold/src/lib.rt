@@ -70,36 +70,36 @@ fn first_had(dst: u32, a: u32, x: f64, b: u32, y: f64) -> Targets
     Targets::One(b, y)
 }
 
-// What a label turns into that the format dst lacks. The arms are the labels of `format`, by number from M to RTR.
+// What a label turns into that the format dst lacks.
 fn folds_to(label: u32, dst: u32, g: FoldGains) -> Targets
     ensures { λ r. ⌜ r ≡ foldsTo g dst label ⌝ }
 {
     match label {
-        0 => {
+        format::M => {
             if Format::has(dst, format::C) {
                 return Targets::One(format::C, 1.0);
             }
             Targets::Two(format::L, g.pan_left, format::R, g.pan_right)
         }
-        1 => Targets::One(format::M, g.mono_sum),
-        2 => Targets::One(format::M, g.mono_sum),
-        3 => Targets::Two(format::L, g.centre, format::R, g.centre),
-        4 => {
+        format::L => Targets::One(format::M, g.mono_sum),
+        format::R => Targets::One(format::M, g.mono_sum),
+        format::C => Targets::Two(format::L, g.centre, format::R, g.centre),
+        format::LFE => {
             if 0.0 < g.lfe {
                 return Targets::Two(format::L, g.lfe, format::R, g.lfe);
             }
             Targets::Nothing
         }
-        5 => first_had(dst, format::LSS, 1.0, format::L, g.surround),
-        6 => first_had(dst, format::RSS, 1.0, format::R, g.surround),
-        7 => Targets::One(format::LS, HALF_POWER),
-        8 => Targets::One(format::RS, HALF_POWER),
-        9 => Targets::One(format::LS, HALF_POWER),
-        10 => Targets::One(format::RS, HALF_POWER),
-        11 => Targets::One(format::L, HALF_POWER),
-        12 => Targets::One(format::R, HALF_POWER),
-        13 => first_had(dst, format::LRS, HALF_POWER, format::LS, HALF_POWER),
-        14 => first_had(dst, format::RRS, HALF_POWER, format::RS, HALF_POWER),
+        format::LS => first_had(dst, format::LSS, 1.0, format::L, g.surround),
+        format::RS => first_had(dst, format::RSS, 1.0, format::R, g.surround),
+        format::LSS => Targets::One(format::LS, HALF_POWER),
+        format::RSS => Targets::One(format::RS, HALF_POWER),
+        format::LRS => Targets::One(format::LS, HALF_POWER),
+        format::RRS => Targets::One(format::RS, HALF_POWER),
+        format::LTF => Targets::One(format::L, HALF_POWER),
+        format::RTF => Targets::One(format::R, HALF_POWER),
+        format::LTR => first_had(dst, format::LRS, HALF_POWER, format::LS, HALF_POWER),
+        format::RTR => first_had(dst, format::RRS, HALF_POWER, format::RS, HALF_POWER),
         _ => Targets::Nothing,
     }
 }

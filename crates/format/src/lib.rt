@@ -124,13 +124,13 @@ impl Format {
         ensures { λ r. ⌜ r ≡ labelOf format channel ⌝ }
     {
         match format {
-            0 => label_at(&MONO, channel),
-            1 => label_at(&STEREO, channel),
-            2 => label_at(&LCR, channel),
-            3 => label_at(&SURROUND_51, channel),
-            4 => label_at(&SURROUND_71, channel),
-            5 => label_at(&SURROUND_514, channel),
-            6 => label_at(&SURROUND_714, channel),
+            Format::MONO => label_at(&MONO, channel),
+            Format::STEREO => label_at(&STEREO, channel),
+            Format::LCR => label_at(&LCR, channel),
+            Format::SURROUND_51 => label_at(&SURROUND_51, channel),
+            Format::SURROUND_71 => label_at(&SURROUND_71, channel),
+            Format::SURROUND_514 => label_at(&SURROUND_514, channel),
+            Format::SURROUND_714 => label_at(&SURROUND_714, channel),
             _ => NO_LABEL,
         }
     }

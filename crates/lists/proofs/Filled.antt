@@ -6,7 +6,7 @@ use native.Mathlib.Nat.{le-of-suc-le-suc, not-suc-le-zero}
 use native.Mathlib.Numerals.{add-one}
 use native.Mathlib.Omega.{arith}
 use native.Mathlib.Decide.{ℕ-discrete}
-use lib.ListN.{length, getD, take, drop, set, length-set}
+use lib.ListN.{length, getD, drop, set, length-set}
 use lib.Seq.{take-all, getD-set-same, getD-set-other, getD-take, getD-drop, ext-getD}
 use Rattle.lists.specs.Parts.{part, upto, filled}
 use Rattle.lists.proofs.Stores.{length-part}

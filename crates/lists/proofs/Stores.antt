@@ -6,7 +6,7 @@ use native.Mathlib.Omega.{arith}
 use mathlib.Core.Logic.{_⊎_, inl, inr, ⊎-elim}
 use mathlib.Core.Path.{_≡_, refl, sym, ap, _∙_}
 use mathlib.Core.List.{List, [], _∷_, _++_, append-assoc}
-use lib.ListN.{length, set, getD, take, drop, length-take, length-drop, length-set}
+use lib.ListN.{length, set, getD, take, drop, length-take, length-drop, length-set, length-append}
 use lib.Seq.{getD-set-same, getD-set-other, take-nil, take-suc, take-take, length-take-le, take-set-le, drop-set-lt, take-at, take-all, drop-at, sets, sets-eq, length-sets}
 use Rattle.lists.specs.Parts.{part}
 
@@ -66,6 +66,12 @@ module _ {A : Type 0} where
   getD-sets-at l k j [] d h g = absurd (not-suc-le-zero h)
   getD-sets-at l k zero (a ∷ vs) d h g = rw add-zero (getD-sets k (set l k a) (suc k) vs d (inl (omega arith)) ∙ getD-set-same l k a d (omega arith))
   getD-sets-at l k (suc j) (a ∷ vs) d h g = rw (add-suc, ← suc-add) (getD-sets-at (set l k a) (suc k) j vs d (omega arith) (rw length-set (omega arith)))
+
+  -- all up to the last of them
+  pub take-stored : (l : List A) (k : ℕ) (vs : List A) → k + length vs ≤ length l → take (k + length vs) (sets l k vs) ≡ take k l ++ vs
+  take-stored l k vs h =
+      rw (sets-eq vs l k h)
+      (take-at (take k l ++ vs) (drop (k + length vs) l) (k + length vs) (length-append (take k l) vs ∙ ap (λ (n : ℕ). n + length vs) (length-take-le k l (omega arith))))
 
   -- ---- a part before the stores, after them, and just where they are
   part-swap : (k n : ℕ) (l : List A) → take n (drop k l) ≡ drop k (take (k + n) l)

@@ -12,7 +12,7 @@ use Rattle.fold.proofs.Ranks.{lowers, into-lower, left-lower, right-low
 use Rattle.fold.proofs.Rows.{cell}
 use Rattle.fold.proofs.Ranks as ranks
 use borrow.Author.Needs.{needs}
-use Rattle.fold.specs.Folds.{rank, added, folded, depth, through, foldsTo}
+use Rattle.fold.specs.Folds.{rank, added, folded, depth, through}
 use Prim.Native.Nat.{ℕ, _+_, _*_, _<_, _≤_}
 use borrow.Fn.Kinds.{In}
 use borrow.Fn.PlainCycle.{Measures, is, falls, and}

@@ -1,5 +1,5 @@
 -- `fold::width_matrix` meets its contract: each way out is one of `Answers`, and decides the area. Assumes nothing.
-use mathlib.Core.Path.{_≡_, sym, ap, _∙_}
+use mathlib.Core.Path.{_≡_, sym, _∙_}
 use mathlib.Core.Bool.{Bool}
 use mathlib.Core.List.{List, _++_, map}
 use Prim.Native.Nat.{ℕ, _*_, _<_, _≤_}

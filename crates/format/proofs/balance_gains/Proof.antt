@@ -1,7 +1,7 @@
 -- `format::balance_gains` meets its contract: each way out is one of `Answers`. Assumes nothing.
 use mathlib.Core.Path.{sym, ap, _∙_}
 use mathlib.Core.Bool.{not}
-use Rattle.format.specs.declared.Gains.the-variants.{Refused, Pair}
+use Rattle.format.specs.declared.Gains.the-variants.{Refused}
 use Rattle.format.proofs.Answers.{gains-17, gains-pair}
 use borrow.Author.Needs.{needs}
 use Rattle.format.proofs.balance_gains.Statement.{statement}
