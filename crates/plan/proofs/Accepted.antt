@@ -1,0 +1,93 @@
+-- What a run, a trace and an adoption go by: of a plan that was accepted its room, its limits and its index list, and of each of its steps
+-- that it is inside its tables, narrow and apart, with the buffers that its spans name. Assumes nothing.
+use mathlib.Core.Path.{_≡_, sym, _∙_, subst}
+use mathlib.Core.Bool.{Bool}
+use mathlib.Core.List.{List}
+use Prim.Native.Nat.{ℕ, suc, _≤_, _<_}
+use native.Mathlib.Omega.{arith}
+use lib.ListN.{length, getD}
+use Rattle.refusal.specs.declared.Answer.the-variants.{Accepted}
+use Rattle.plan.specs.declared.Plan.{Plan}
+use Rattle.plan.specs.declared.Span.{Span}
+use Rattle.plan.specs.declared.Step.{Step}
+use Rattle.plan.specs.declared.Read.the-variants.{Found, Bad}
+use Rattle.plan.specs.Limits.{unitLimits}
+use Rattle.plan.specs.Areas.{Areas, shortAreas, shortLists}
+use Rattle.plan.specs.Words.{readAt}
+use Rattle.plan.specs.Check.{named, checked, checkPlan}
+use Rattle.plan.specs.Sound.{Within, Inside, Narrow, Apart, IndexList, Pass, Passes}
+use Rattle.plan.proofs.Plans.{WithinLimits, Room, ListRoom, areas-none, lists-none, some-none, entries-none}
+use Rattle.plan.proofs.Spans.{length-named, named-below}
+use Rattle.plan.proofs.Steps.{outside-none, wide-none, shares-none}
+use Rattle.plan.proofs.Exact.{accepted-sound}
+
+-- ---- the plan
+module _ (p : Plan) (short : Bool) (indices words steps : List ℕ) (e : checked p short indices words steps ≡ Accepted) where
+  pub accepted-limits : WithinLimits unitLimits p
+  accepted-limits =
+      let s = accepted-sound p short indices words steps e in
+      record {
+        buffers = s .buffer-count;
+        indices = s .index-count;
+        coefficients = s .coefficient-count;
+        nodes = s .node-count;
+        steps = s .step-count;
+      }
+
+  pub accepted-list : p .indices ≤ length indices → IndexList p indices
+  accepted-list h =
+      let s = accepted-sound p short indices words steps e in
+      record { room = h; few = s .buffer-count; entries = entries-none (p .buffers) (p .indices) indices .1 (s .entries) }
+
+-- the room of all six areas, where the call tested them, and of three
+pub accepted-room : (p : Plan) (a : Areas) → checkPlan p a ≡ Accepted → Room p a
+accepted-room p a e = areas-none p a .0 (accepted-sound p (shortAreas p a) (a .indices) (a .words) (a .steps) e .areas)
+
+pub accepted-lists : (p : Plan) (indices words steps : List ℕ) → checked p (shortLists p indices words steps) indices words steps ≡ Accepted
+    → ListRoom p indices words steps
+accepted-lists p indices words steps e =
+    lists-none p indices words steps .0 (accepted-sound p (shortLists p indices words steps) indices words steps e .areas)
+
+-- ---- a step that was read, where `left` of them pass, and `more` after it
+module _ (p : Plan) (indices w : List ℕ) (at : ℕ) {left more : ℕ} (e : left ≡ suc more) (f : Passes p indices w left at) where
+  pass : Pass p indices w at (λ next. Passes p indices w more next)
+  pass = subst (λ (k : ℕ). Passes p indices w k at) e f
+
+  pub pass-read : readAt w at ≡ Bad → ⊥
+  pass-read b =
+      let z : Bad ≡ Found (pass .step) (pass .next) = sym b ∙ pass .read in
+      let x : _≡_ {A = ℕ} 0 1 = cc in
+      omega arith
+
+  module _ {s : Step} {next : ℕ} (r : readAt w at ≡ Found s next) where
+    same : Found s next ≡ Found (pass .step) (pass .next)
+    same = sym r ∙ pass .read
+
+    pub pass-inside : Inside p s
+    pass-inside =
+        let q : s ≡ pass .step = cc same in
+        rw q (outside-none p (pass .step) .0 (pass .inside))
+
+    pub pass-narrow : Narrow s
+    pass-narrow =
+        let q : s ≡ pass .step = cc same in
+        rw q (wide-none (pass .step) .0 (pass .narrow))
+
+    pub pass-apart : Apart indices s
+    pass-apart =
+        let q : s ≡ pass .step = cc same in
+        rw q (shares-none indices (pass .step) .0 (pass .apart))
+
+    pub pass-rest : Passes p indices w more next
+    pass-rest =
+        let q : next ≡ pass .next = cc same in
+        rw q (pass .rest)
+
+-- ---- the buffers that a span of a step names
+module _ (p : Plan) (indices : List ℕ) (l : IndexList p indices) (s : Span) (h : Within (p .indices) s) where
+  pub span-length : length (named indices s) ≡ s .len
+  span-length = length-named indices s (omega arith)
+
+  pub span-below : (i : ℕ) → i < s .len → getD (named indices s) i 0 < p .buffers
+  span-below i k =
+      some-none (p .buffers) (named indices s) .0 (named-below indices s (p .buffers) (p .indices) (l .entries) h) i (omega (arith, span-length))

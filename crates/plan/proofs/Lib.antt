@@ -1,0 +1,28 @@
+-- Laws that belong to no one function, for the crates above too.
+
+-- a disjunction that is false
+pub mod Bools
+-- tests of one entry after another
+pub mod Scans
+-- the step words: what stands at a place, and the list of steps turn by turn
+pub mod Words
+-- where in the words a step lies
+pub mod Places
+-- the tests of a plan as a whole in plain terms
+pub mod Plans
+-- the buffers that a span names
+pub mod Spans
+-- the tests of a step in plain terms
+pub mod Steps
+-- one law for each way out of the check
+pub mod Answers
+-- the steps one by one and as a list
+pub mod Passes
+-- the check accepts the sound plans and no other, and refuses by the first test that holds
+pub mod Exact
+-- what holds of an accepted plan
+pub mod Accepted
+-- the check reads no more of the areas than the plan counts
+pub mod Front
+-- document 01's case 11
+pub mod Examples

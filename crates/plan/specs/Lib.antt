@@ -1,0 +1,9 @@
+-- What the crate's contracts cite: the limits, the step words, the lent areas, and the plan check. `Sound` says what a plan is that the check accepts;
+-- `Resolved` is a step with the buffers and weights that it names.
+pub mod Limits
+pub mod Words
+pub mod Records
+pub mod Areas
+pub mod Check
+pub mod Sound
+pub mod Resolved

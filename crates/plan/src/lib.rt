@@ -1,0 +1,205 @@
+// The plan record, its step words and the plan check. Ports `Span` and `Step` of src/engine/plan.rs; the check and the step words are added.
+use refusal::Answer;
+use refusal::Refusal;
+ghost use mathlib.Core.Path.{_≡_};
+ghost use mathlib.Core.Bool.{false};
+ghost use mathlib.Core.List.{[]};
+ghost use Prim.Native.Nat.{_≤_};
+ghost use Rattle.refusal.specs.Tests.{first};
+ghost use Rattle.plan.specs.Limits.{unitLimits};
+ghost use Rattle.plan.specs.Areas.{areas, shortLists};
+ghost use Rattle.plan.specs.Check.{stepTests, stepsTests, checked, checkPlan};
+ghost use Rattle.plan.specs.Sound.{IndexList};
+
+mod plan_tests;
+mod reader;
+mod step_tests;
+
+pub use plan_tests::bad_block;
+pub use plan_tests::id_among;
+pub use plan_tests::id_twice;
+pub use plan_tests::over_limits;
+pub use plan_tests::short_areas;
+pub use plan_tests::short_lists;
+pub use plan_tests::shorter;
+pub use reader::field_count;
+pub use reader::read_step;
+pub use step_tests::numbers;
+pub use step_tests::step_wide;
+pub use step_tests::used;
+
+// A plan's block and counts, which go with its lent areas. `words` counts the step words.
+pub struct Plan {
+    pub block: usize,
+    pub buffers: usize,
+    pub indices: usize,
+    pub coefficients: usize,
+    pub nodes: usize,
+    pub steps: usize,
+    pub words: usize,
+}
+
+// A run of entries in the index list or in the coefficients.
+pub struct Span {
+    pub start: u32,
+    pub len: u32,
+}
+
+// One step of a plan. Buffer lists are spans of the index list.
+pub enum Step {
+    Patch {
+        input: u32,
+        channel: u32,
+        dst: u32,
+    },
+    Gain {
+        node: u32,
+        src: Span,
+        dst: Span,
+    },
+    Matrix {
+        node: u32,
+        src: Span,
+        dst: Span,
+    },
+    Clear {
+        dst: Span,
+    },
+    Send {
+        node: u32,
+        src: Span,
+        dst: Span,
+        coefficients: Span,
+    },
+    Output {
+        src: Span,
+        slot: u32,
+    },
+}
+
+// A step that was read, and the place after it; or none.
+pub enum Read {
+    Found(Step, usize),
+    Bad,
+}
+
+impl Plan {
+    pub const MAX_BLOCK: usize = 1_024;
+
+    pub const MAX_BUFFERS: usize = 256;
+
+    pub const MAX_INDICES: usize = 1_024;
+
+    pub const MAX_COEFFICIENTS: usize = 1_024;
+
+    pub const MAX_NODES: usize = 64;
+
+    pub const MAX_STEPS: usize = 512;
+}
+
+impl Step {
+    // Inputs are 0 to 255, slots 0 to 31.
+    pub const INPUTS: u32 = 256;
+
+    pub const SLOTS: u32 = 32;
+
+    pub const PATCH_MAP: u32 = 7;
+
+    pub const GAIN_MAP: u32 = 248;
+
+    pub const MATRIX_MAP: u32 = 2296;
+
+    pub const CLEAR_MAP: u32 = 192;
+
+    pub const SEND_MAP: u32 = 1016;
+
+    pub const OUTPUT_MAP: u32 = 1072;
+}
+
+// One step that was read, at its place from 1. Requires an index list that was tested.
+fn check_step(plan: Plan, indices: &[u32], step: Step, place: u32) -> Answer
+    requires { ⌜ IndexList plan (now indices) ⌝ }
+    ensures { λ r. ⌜ r ≡ first (stepTests plan (now (indices .entry)) place (Read.Found step 0) (λ _. [])) Answer.Accepted ⌝ }
+{
+    if step_tests::step_outside(plan, step) {
+        return Answer::Refused(Refusal::at(Refusal::OUTSIDE_TABLE, place));
+    }
+    if step_wide(step) {
+        return Answer::Refused(Refusal::at(Refusal::TOO_MANY_VALUES, place));
+    }
+    if step_tests::step_shares(plan, indices, step) {
+        return Answer::Refused(Refusal::at(Refusal::SHARED_BUFFER, place));
+    }
+    Answer::Accepted
+}
+
+// The steps of the step words, each in turn. Requires an index list that was tested, and steps within their limit.
+fn check_steps(plan: Plan, indices: &[u32], words: &[u32]) -> Answer
+    requires { ⌜ IndexList plan (now indices) × (plan .steps ≤ unitLimits .steps) ⌝ }
+    ensures { λ r. ⌜ r ≡ first (stepsTests plan (now (indices .entry)) (now (words .entry)) (plan .steps) 0 1) Answer.Accepted ⌝ }
+{
+    let n = plan.steps;
+    let mut at = 0;
+    let mut i = 0;
+    while i < n {
+        let place = (i + 1) as u32;
+        let Read::Found(step, next) = read_step(words, at) else {
+            return Answer::Refused(Refusal::at(Refusal::UNREADABLE_STEP, place));
+        };
+        if let Answer::Refused(r) = check_step(plan, indices, step, place) {
+            return Answer::Refused(r);
+        }
+        at = next;
+        i += 1;
+    }
+    Answer::Accepted
+}
+
+// The plan check of a call that found out by itself whether one of its areas is too short. Requires that one is where it is one of these.
+pub fn check(plan: Plan, short: bool, indices: &[u32], node_words: &[u32], steps: &[u32]) -> Answer
+    requires { ⌜ (short ≡ false → shortLists plan (now indices) (now «node_words») (now steps) ≡ false) ⌝ }
+    ensures { λ r. ⌜ r ≡ checked plan short (now (indices .entry)) (now («node_words» .entry)) (now (steps .entry)) ⌝ }
+{
+    if bad_block(plan.block) {
+        return Answer::Refused(Refusal::of(Refusal::BLOCK_LENGTH));
+    }
+    if over_limits(plan) {
+        return Answer::Refused(Refusal::of(Refusal::OVER_LIMIT));
+    }
+    if short {
+        return Answer::Refused(Refusal::of(Refusal::SHORT_AREA));
+    }
+    let entries = plan.indices;
+    if plan_tests::some_from(plan.buffers, &indices[..entries]) {
+        return Answer::Refused(Refusal::of(Refusal::OUTSIDE_TABLE));
+    }
+    if plan_tests::id_twice(node_words, plan.nodes) {
+        return Answer::Refused(Refusal::of(Refusal::ID_TAKEN));
+    }
+    let words = plan.words;
+    check_steps(plan, indices, &steps[..words])
+}
+
+// The plan check as a call of its own.
+pub fn check_plan(
+    plan: Plan,
+    indices: &[u32],
+    coefficients: &[f32],
+    node_floats: &[f32],
+    node_words: &[u32],
+    steps: &[u32],
+    buffers: &[f32],
+) -> Answer
+    ensures { λ r. ⌜ r ≡ checkPlan plan (areas (now (indices .entry)) (now (coefficients .entry)) (now («node_floats» .entry)) (now («node_words» .entry)) (now (steps .entry)) (now (buffers .entry))) ⌝ }
+{
+    let short = short_areas(
+        plan,
+        indices,
+        coefficients,
+        node_floats,
+        node_words,
+        steps,
+        buffers,
+    );
+    check(plan, short, indices, node_words, steps)
+}
