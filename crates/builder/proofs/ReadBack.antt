@@ -1,0 +1,237 @@
+-- What accepted calls leave, read back, is the list of what was given, whatever the areas held before and however long they are.
+-- Assumes nothing.
+use mathlib.Core.Path.{_≡_, refl, sym, ap, _∙_, subst}
+use mathlib.Core.Bool.{true≢false}
+use mathlib.Core.List.{List, [], _∷_, _++_}
+use Prim.Native.Nat.{ℕ, _+_, _*_, _<_, _≤_}
+use native.Mathlib.Nat.{zero-add}
+use native.Mathlib.Numerals.{add-one}
+use native.Mathlib.Omega.{arith}
+use lib.ListN.{length, take, length-append}
+use lib.Seq.{sets, length-take-le, take-take}
+use lib.Ieee.{Float}
+use Rattle.refusal.specs.Tests.{outcome}
+use Rattle.refusal.specs.declared.Answer.{Answer}
+use Rattle.refusal.specs.declared.Answer.the-variants.{Accepted, Refused}
+use Rattle.lists.proofs.Stores.{take-stored}
+use Rattle.node.specs.Nodes.{newNode}
+use Rattle.node.specs.Areas.{nodeAt, nodes, storedFloats, storedWords}
+use Rattle.node.proofs.Kept.{full-new}
+use Rattle.node.proofs.Areas.{stored-same, stored-other, nodes-same}
+use Rattle.plan.specs.declared.Plan.{Plan}
+use Rattle.plan.specs.declared.Step.{Step}
+use Rattle.plan.specs.declared.Read.{Read}
+use Rattle.plan.specs.declared.Read.the-variants.{Found, Bad}
+use Rattle.plan.specs.Limits.{Limits}
+use Rattle.plan.specs.Words.{fields, readAt, decodedFrom, decoded}
+use Rattle.plan.specs.Records.{word}
+use Rattle.plan.proofs.Words.{patch-fields, gain-fields, matrix-fields, clear-fields, send-fields, output-fields, read-past, decoded-on, decoded-none, decoded-start}
+use Rattle.plan.proofs.Places.{Is, Kind, patch, gain, matrix, clear, send, output, read-kind, read-agree, read-append, read-seam}
+use Rattle.builder.specs.Growth.{buffersGrowth, coefficientsGrowth, nodeGrowth, stepGrowth}
+use Rattle.builder.specs.Calls.{emptyPlan, numbersFrom, recordLength, unreadable}
+use Rattle.builder.specs.Built.{Call, buffers, coefficients, node, step, State, answer, after, built, accepted, Draft, noDraft, stepRead, given, drafted, Reads, none, then, Holds}
+use Rattle.builder.proofs.Numbers.{length-numbers}
+use Rattle.builder.proofs.Fits.{buffers-fit, coefficients-fit, node-fits, step-fits}
+use Rattle.builder.proofs.Outcomes.{plan-accepted, buffers-accepted, coefficients-accepted, floats-accepted, words-accepted, step-accepted}
+use Rattle.builder.proofs.Refusals.{refused-nothing}
+
+-- entries that are stored after the first k of a list, read back
+appended : {A : Type 0} (l vs xs : List A) (k n : ℕ) → k + n ≤ length l → length vs ≡ n → take k l ≡ xs → take (k + n) (sets l k vs) ≡ xs ++ vs
+appended l vs xs k n h e p =
+    let h′ : k + length vs ≤ length l = omega arith in
+    ap (λ (m : ℕ). take (k + m) (sets l k vs)) (sym e) ∙ take-stored l k vs h′ ∙ ap (λ (ys : List _). ys ++ vs) p
+
+counted : {A : Type 0} (xs vs : List A) {k n : ℕ} → k ≡ length xs → length vs ≡ n → k + n ≡ length (xs ++ vs)
+counted xs vs p e = omega (arith, length-append xs vs)
+
+-- the nodes with one more
+node-appended : (n id : ℕ) (values : List Float) (ramp : ℕ) (floats : List Float) (words : List ℕ) → (n + 1) * 72 ≤ length floats → (n + 1) * 3 ≤ length words
+    → nodes (n + 1) (storedFloats floats n (newNode id values ramp)) (storedWords words n (newNode id values ramp)) ≡ nodes n floats words ++ (newNode id values ramp ∷ [])
+unfolding nodes
+node-appended n id values ramp floats words hf hw =
+    let new = newNode id values ramp in
+    let full = full-new id values ramp in
+    let fs = storedFloats floats n new in
+    let ws = storedWords words n new in
+    let before : nodes n fs ws ≡ nodes n floats words =
+    nodes-same n fs floats ws words (λ (i : ℕ) (h : i < n). stored-other floats words n new full i (λ e. omega arith)) in
+    let last : nodeAt fs ws n ≡ new = stored-same floats words n new full (hf, hw) in
+    ap (λ (k : ℕ). nodes k fs ws) (add-one n) ∙ rw (before, last)
+
+module _ (l : Limits) (s : State) (d : Draft) (h : Holds s d) where
+  buffers-held : (n : ℕ) → answer l s (buffers n) ≡ Accepted → Holds (after l s (buffers n)) (given d (buffers n))
+  buffers-held n e =
+      let p = s .plan in
+      let f = buffers-fit l p n (length (s .indices)) e in
+      let ns = length-numbers (p .buffers) n in
+      rw (plan-accepted p (buffersGrowth n) e, buffers-accepted l p n (s .indices) e)
+      (record {
+        buffers = ap (λ (k : ℕ). k + n) (h .buffers);
+        index-count = counted (d .indices) (numbersFrom (d .buffers) n) (h .index-count) (length-numbers (d .buffers) n);
+        coefficient-count = h .coefficient-count;
+        node-count = h .node-count;
+        step-count = h .step-count;
+        word-count = h .word-count;
+        indices = appended (s .indices) (numbersFrom (p .buffers) n) (d .indices) (p .indices) n (f .area) ns (h .indices)
+            ∙ ap (λ (k : ℕ). d .indices ++ numbersFrom k n) (h .buffers);
+        coefficients = h .coefficients;
+        nodes = h .nodes;
+        words = h .words;
+        steps = h .steps;
+      })
+
+  coefficients-held : (xs : List Float) → answer l s (coefficients xs) ≡ Accepted → Holds (after l s (coefficients xs)) (given d (coefficients xs))
+  coefficients-held xs e =
+      let p = s .plan in
+      let f = coefficients-fit l p (length xs) (length (s .coefficients)) e in
+      rw (plan-accepted p (coefficientsGrowth (length xs)) e, coefficients-accepted l p xs (s .coefficients) e)
+      (record {
+        buffers = h .buffers;
+        index-count = h .index-count;
+        coefficient-count = counted (d .coefficients) xs (h .coefficient-count) refl;
+        node-count = h .node-count;
+        step-count = h .step-count;
+        word-count = h .word-count;
+        indices = h .indices;
+        coefficients = appended (s .coefficients) xs (d .coefficients) (p .coefficients) (length xs) (f .area) refl (h .coefficients);
+        nodes = h .nodes;
+        words = h .words;
+        steps = h .steps;
+      })
+
+  node-held : (id : ℕ) (xs : List Float) (ramp : ℕ) → answer l s (node id xs ramp) ≡ Accepted → Holds (after l s (node id xs ramp)) (given d (node id xs ramp))
+  node-held id xs ramp e =
+      let p = s .plan in
+      let f = node-fits l p id (length xs) ramp (length (s .floats)) (s .words) e in
+      rw (plan-accepted p nodeGrowth e, floats-accepted l p id xs ramp (s .floats) (s .words) e, words-accepted l p id xs ramp (s .floats) (s .words) e)
+      (record {
+        buffers = h .buffers;
+        index-count = h .index-count;
+        coefficient-count = h .coefficient-count;
+        node-count = counted (d .nodes) (newNode id xs ramp ∷ []) (h .node-count) refl;
+        step-count = h .step-count;
+        word-count = h .word-count;
+        indices = h .indices;
+        coefficients = h .coefficients;
+        nodes = node-appended (p .nodes) id xs ramp (s .floats) (s .words) (f .floats) (f .words) ∙ ap (λ ns. ns ++ (newNode id xs ramp ∷ [])) (h .nodes);
+        words = h .words;
+        steps = h .steps;
+      })
+
+-- ---- the steps
+
+-- a step that was read ends where its map's fields do
+read-next : (w : List ℕ) (at : ℕ) {s : Step} {next : ℕ} → readAt w at ≡ Found s next → next ≡ at + (1 + fields (word w at))
+read-next w at {s} {next} r = go (read-kind w at r)
+  where
+    ends : {map n : ℕ} {t : Step} → fields map ≡ n → Is w at s next map t n → next ≡ at + (1 + fields (word w at))
+    ends e i = i .after ∙ ap (λ (k : ℕ). at + (1 + k)) (sym (ap fields (i .first) ∙ e))
+
+    go : Kind w at s next → next ≡ at + (1 + fields (word w at))
+    go (patch i) = ends patch-fields i
+    go (gain i) = ends gain-fields i
+    go (matrix i) = ends matrix-fields i
+    go (clear i) = ends clear-fields i
+    go (send i) = ends send-fields i
+    go (output i) = ends output-fields i
+
+record-next : (w : List ℕ) {s : Step} {next : ℕ} → readAt w 0 ≡ Found s next → next ≡ recordLength w
+record-next [] r = let z : _≡_ {A = ℕ} 0 1 = cc (sym (read-past [] 0 (omega arith)) ∙ r) in absurd (omega arith)
+record-next (map ∷ ws) r = read-next (map ∷ ws) 0 r ∙ zero-add (1 + fields map)
+
+module _ (more : List ℕ) where
+  reads-append : {w : List ℕ} {at end : ℕ} {ss : List Step} → Reads w at ss end → Reads (w ++ more) at ss end
+  reads-append none = none
+  reads-append {w} {at} (then r rs) = then (read-append w more at r) (reads-append rs)
+
+reads-one : {w : List ℕ} {at end next : ℕ} {ss : List Step} {s : Step} → Reads w at ss end → readAt w end ≡ Found s next → Reads w at (ss ++ (s ∷ [])) next
+reads-one none q = then q none
+reads-one (then r rs) q = then r (reads-one rs q)
+
+-- steps that are read in turn are the decoded list
+pub reads-decoded : {w : List ℕ} {at end : ℕ} {ss : List Step} → Reads w at ss end → decodedFrom w (length ss) at ≡ ss
+reads-decoded {w} {at} none = decoded-none w at refl
+reads-decoded {w} {at} (then {s = s} r rs) = decoded-on w at refl r ∙ ap (λ (l : List Step). s ∷ l) (reads-decoded rs)
+
+module _ (l : Limits) (s : State) (d : Draft) (h : Holds s d) (w : List ℕ) (e : answer l s (step w) ≡ Accepted) where
+  -- the record that was given is a step, and lies after the words before it
+  step-read : (t : Step) (next : ℕ) → readAt w 0 ≡ Found t next → Holds (after l s (step w)) (given d (step w))
+  step-read t next r =
+      let p = s .plan in
+      let n = recordLength w in
+      let f = step-fits l p w (length (s .steps)) e in
+      let rec = take n w in
+      let k : length rec ≡ n = length-take-le n w (f .whole) in
+      let m : next ≡ n = record-next w r in
+      let one : readAt rec 0 ≡ Found t next = read-agree w rec n (sym (take-take n n w (omega arith))) 0 r (omega arith) in
+      let here : readAt (d .words ++ rec) (length (d .words)) ≡ Found t (length (d .words ++ rec)) =
+      read-seam (d .words) rec one ∙ ap (Found t) (ap (λ (j : ℕ). length (d .words) + j) (m ∙ sym k) ∙ sym (length-append (d .words) rec)) in
+      let given-step : stepRead (readAt w 0) ≡ t ∷ [] = ap stepRead r in
+      rw (plan-accepted p (stepGrowth n) e, step-accepted l p w (s .steps) e)
+      (record {
+        buffers = h .buffers;
+        index-count = h .index-count;
+        coefficient-count = h .coefficient-count;
+        node-count = h .node-count;
+        step-count = counted (d .steps) (stepRead (readAt w 0)) (h .step-count) (ap length given-step);
+        word-count = counted (d .words) rec (h .word-count) k;
+        indices = h .indices;
+        coefficients = h .coefficients;
+        nodes = h .nodes;
+        words = appended (s .steps) rec (d .words) (p .words) n (f .area) k (h .words);
+        steps = subst (λ (ss : List Step). Reads (d .words ++ rec) 0 (d .steps ++ ss) (length (d .words ++ rec))) (sym given-step) (reads-one (reads-append rec (h .steps)) here);
+      })
+
+  step-held : Holds (after l s (step w)) (given d (step w))
+  step-held = go (readAt w 0) refl
+    where
+      go : (r : Read) → readAt w 0 ≡ r → Holds (after l s (step w)) (given d (step w))
+      go (Found t next) r = step-read t next r
+      go Bad r = absurd (true≢false (sym (ap unreadable r) ∙ step-fits l (s .plan) w (length (s .steps)) e .readable))
+
+-- ---- lists of calls
+
+pub call-held : (l : Limits) (s : State) (d : Draft) (c : Call) → Holds s d → answer l s c ≡ Accepted → Holds (after l s c) (given d c)
+call-held l s d (buffers n) h e = buffers-held l s d h n e
+call-held l s d (coefficients xs) h e = coefficients-held l s d h xs e
+call-held l s d (node id xs ramp) h e = node-held l s d h id xs ramp e
+call-held l s d (step w) h e = step-held l s d h w e
+
+pub built-held : (l : Limits) (cs : List Call) (s : State) (d : Draft) → Holds s d → Holds (built l s cs) (drafted d (accepted l s cs))
+built-held l [] s d h = h
+built-held l (c ∷ cs) s d h = go (answer l s c) refl (built-held l cs (after l s c) (given d c)) (built-held l cs (after l s c) d)
+  where
+    t : State
+    t = after l s c
+
+    go : (a : Answer) → answer l s c ≡ a → (Holds t (given d c) → Holds (built l t cs) (drafted (given d c) (accepted l t cs)))
+        → (Holds t d → Holds (built l t cs) (drafted d (accepted l t cs))) → Holds (built l t cs) (drafted d (outcome a (c ∷ accepted l t cs) (λ _. accepted l t cs)))
+    go Accepted e taken left = taken (call-held l s d c h e)
+    go (Refused r) e taken left = left (subst (λ (u : State). Holds u d) (sym (refused-nothing l s c r e)) h)
+
+-- what `new` leaves holds nothing, in areas of any content and length
+empty-held : (s : State) (block : ℕ) → s .plan ≡ emptyPlan block → Holds s noDraft
+unfolding nodes
+empty-held s block e =
+    record {
+      buffers = ap (λ (p : Plan). p .buffers) e;
+      index-count = ap (λ (p : Plan). p .indices) e;
+      coefficient-count = ap (λ (p : Plan). p .coefficients) e;
+      node-count = ap (λ (p : Plan). p .nodes) e;
+      step-count = ap (λ (p : Plan). p .steps) e;
+      word-count = ap (λ (p : Plan). p .words) e;
+      indices = ap (λ (p : Plan). take (p .indices) (s .indices)) e;
+      coefficients = ap (λ (p : Plan). take (p .coefficients) (s .coefficients)) e;
+      nodes = ap (λ (p : Plan). nodes (p .nodes) (s .floats) (s .words)) e;
+      words = ap (λ (p : Plan). take (p .words) (s .steps)) e;
+      steps = none;
+    }
+
+-- The theorem: after `new` and any list of calls, refused ones among them, in areas of any content and length, the plan holds the draft of
+-- the accepted calls.
+pub read-back : (l : Limits) (block : ℕ) (s : State) → s .plan ≡ emptyPlan block → (cs : List Call) → Holds (built l s cs) (drafted noDraft (accepted l s cs))
+read-back l block s e cs = built-held l cs s noDraft (empty-held s block e)
+
+-- so the step words, as a run decodes them, are the steps that were given
+pub held-decoded : (s : State) (d : Draft) → Holds s d → decoded (take (s .plan .words) (s .steps)) (s .plan .steps) ≡ d .steps
+held-decoded s d h = rw (h .words, h .step-count) (decoded-start (d .words) (length (d .steps)) ∙ reads-decoded (h .steps))
