@@ -13,7 +13,7 @@ use lib.ListN.{length}
 use Rattle.plan.proofs.Bools.{or-none}
 use Rattle.plan.proofs.Words.{read-cut}
 use Rattle.plan.specs.declared.Plan.{Plan}
-use Rattle.plan.specs.Limits.{Limits}
+use Rattle.plan.specs.Limits.{Limits, maxBlock}
 use Rattle.plan.specs.Words.{fields, readAt}
 use Rattle.plan.specs.Check.{idAmong}
 use Rattle.builder.specs.Calls.{buffersTests, buffersAnswer, coefficientsTests, coefficientsAnswer, nodeTests, nodeAnswer, recordLength, unreadable, stepTests, stepAnswer, finishTests, finishAnswer}
@@ -69,7 +69,7 @@ node-fits l p id n ramp floats words e =
 
 pub record FinishFits (l : Limits) (p : Plan) (len : ℕ) : Type 0 where
   pub low : 1 ≤ p .block
-  pub high : p .block ≤ 1024
+  pub high : p .block ≤ maxBlock
   pub buffers : p .buffers ≤ l .buffers
   pub area : p .buffers * p .block ≤ len
 

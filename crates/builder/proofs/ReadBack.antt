@@ -14,6 +14,7 @@ use Rattle.refusal.specs.Tests.{outcome}
 use Rattle.refusal.specs.declared.Answer.{Answer}
 use Rattle.refusal.specs.declared.Answer.the-variants.{Accepted, Refused}
 use Rattle.lists.proofs.Stores.{take-stored}
+use Rattle.node.specs.Sizes.{nodeFloats, nodeWords}
 use Rattle.node.specs.Nodes.{newNode}
 use Rattle.node.specs.Areas.{nodeAt, nodes, storedFloats, storedWords}
 use Rattle.node.proofs.Kept.{full-new}
@@ -45,7 +46,7 @@ counted : {A : Type 0} (xs vs : List A) {k n : ℕ} → k ≡ length xs → leng
 counted xs vs p e = omega (arith, length-append xs vs)
 
 -- the nodes with one more
-node-appended : (n id : ℕ) (values : List Float) (ramp : ℕ) (floats : List Float) (words : List ℕ) → (n + 1) * 72 ≤ length floats → (n + 1) * 3 ≤ length words
+node-appended : (n id : ℕ) (values : List Float) (ramp : ℕ) (floats : List Float) (words : List ℕ) → (n + 1) * nodeFloats ≤ length floats → (n + 1) * nodeWords ≤ length words
     → nodes (n + 1) (storedFloats floats n (newNode id values ramp)) (storedWords words n (newNode id values ramp)) ≡ nodes n floats words ++ (newNode id values ramp ∷ [])
 unfolding nodes
 node-appended n id values ramp floats words hf hw =

@@ -3,11 +3,12 @@ ghost use mathlib.Core.Path.{_≡_};
 ghost use Prim.Native.Nat.{_+_, _≤_};
 ghost use lib.ListN.{length, take, replicate};
 ghost use lib.Seq.{sets};
+ghost use Rattle.plan.specs.Limits.{unitLimits};
 ghost use Rattle.builder.specs.Calls.{numbersFrom, silence};
 
 // n numbers from `from` on, stored from place `at` on.
 pub fn put_numbers(from: usize, n: usize, at: usize, indices: &mut [u32])
-    requires { ⌜ (from + n ≤ 256) × (at + n ≤ length (now indices)) ⌝ }
+    requires { ⌜ (from + n ≤ unitLimits .buffers) × (at + n ≤ length (now indices)) ⌝ }
     ensures { λ _. ⌜ now (indices .exit) ≡ sets (now (indices .entry)) at (numbersFrom from n) ⌝ }
 {
     for i in 0..n {

@@ -5,7 +5,7 @@ use native.Mathlib.Nat.{mul-le-mul}
 use native.Mathlib.Omega.{arith}
 use lib.ListN.{length}
 use Rattle.refusal.specs.declared.Answer.the-variants.{Accepted, Refused}
-use Rattle.plan.specs.Limits.{unitLimits}
+use Rattle.plan.specs.Limits.{maxBlock, unitLimits}
 use Rattle.builder.specs.Calls.{finishAnswer}
 use Rattle.builder.proofs.Fits.{FinishFits, finish-fits}
 use Rattle.builder.proofs.Outcomes.{finish-refused, finish-accepted}
@@ -31,7 +31,7 @@ enum-told c = search needs
 mul-n : tie.Need-mul-n
 mul-n c =
     let f = fits (c .before) in
-    let h : c .before .before .before .before .before .args .plan .buffers * c .before .before .before .before .before .args .plan .block ≤ 256 * 1024 = mul-le-mul (f .buffers) (f .high) in
+    let h : c .before .before .before .before .before .args .plan .buffers * c .before .before .before .before .before .args .plan .block ≤ unitLimits .buffers * maxBlock = mul-le-mul (f .buffers) (f .high) in
     omega arith
 
 put-zeros-requires : tie.Need-put-zeros-requires
