@@ -1,0 +1,111 @@
+-- The loops over the samples of a piece, one piece of a buffer through a local, and pieces that make a whole buffer: one law for whatever is
+-- done to a sample. Assumes nothing.
+use mathlib.Core.Path.{_≡_, refl, ap, _∙_}
+use mathlib.Core.List.{List}
+use mathlib.Core.Logic.{inr}
+use Prim.Native.Nat.{ℕ, _+_, _-_, _*_, _≤_, _<_}
+use native.Mathlib.Nat.{zero-add, add-assoc}
+use native.Mathlib.Omega.{arith}
+use lib.ListN.{length, getD, drop, set, length-take, length-drop}
+use lib.Seq.{sets, length-sets, getD-take, getD-drop}
+use lib.Ieee.{Float, nan}
+use borrow.Rule.Slice.PartMut.{putMid, midOf}
+use Rattle.lists.proofs.Stores.{getD-sets}
+use Rattle.mix.specs.Samples.{sample, sampled, put}
+use Rattle.mix.specs.Mix.{Pair}
+use Rattle.mix.specs.Loops.{mixedInto, mixedAt}
+use Rattle.mix.proofs.Stored.{length-sampled, turn, run-more, stored-at, part-stored, sampled-same, none-stored}
+use Rattle.mix.proofs.Put.{begun-other, begun-same}
+
+-- ---- the samples of a local, from those of a part
+module _ (f : ℕ → Float → Float → Float) (k : ℕ) (x y₀ : List Float) where
+  pub none-mixed : y₀ ≡ mixedInto f k 0 x y₀
+  unfolding mixedInto
+  none-mixed = none-stored (λ i. f (k + i) (getD x i nan) (getD y₀ i nan)) y₀ 0
+
+  length-mixed : (m : ℕ) → length (mixedInto f k m x y₀) ≡ length y₀
+  unfolding mixedInto
+  length-mixed m = simp length-sets
+
+  pub mixed-turn : (i : ℕ) {y : List Float} → y ≡ mixedInto f k i x y₀
+      → set y i (f (k + i) (getD x i nan) (getD y i nan)) ≡ mixedInto f k (i + 1) x y₀
+  unfolding mixedInto
+  mixed-turn i {y} e =
+      let F : ℕ → Float = λ i. f (k + i) (getD x i nan) (getD y₀ i nan) in
+      let h : getD y i nan ≡ getD y₀ i nan = ap (λ (l : List Float). getD l i nan) e ∙ getD-sets i y₀ 0 (sampled i F) nan (inr (omega (arith, length-sampled i F))) in
+      turn F i y₀ e (ap (λ (v : Float). f (k + i) (getD x i nan) v) h)
+
+  pub mixed-at : (m : ℕ) {y : List Float} → y ≡ mixedInto f k m x y₀ → m ≤ length y₀ → (i : ℕ) → i < m
+      → getD y i nan ≡ f (k + i) (getD x i nan) (getD y₀ i nan)
+  unfolding mixedInto
+  mixed-at m e h i l =
+      let F : ℕ → Float = λ i. f (k + i) (getD x i nan) (getD y₀ i nan) in
+      ap (λ (y : List Float). getD y i nan) e ∙ (rw zero-add at (stored-at F y₀ 0 m i l (omega arith)))
+
+-- the samples of a part
+pub part-at : (a : List Float) (p m i : ℕ) → i < m → getD (midOf p (p + m - p) a) i nan ≡ getD a (p + i) nan
+part-at a p m i h =
+    let j : p + m - p ≡ m = omega arith in
+    rw j (getD-take m (drop p a) i nan h ∙ getD-drop p a i nan)
+
+pub part-length : (a : List Float) (p m : ℕ) → p + m ≤ length a → length (midOf p (p + m - p) a) ≡ m
+part-length a p m h = let j : p + m - p ≡ m = omega arith in rw j (simp (length-take, length-drop) (omega arith))
+
+-- a part, mixed into a local by a function that is f from sample k on
+pub part-mixed : (f h : ℕ → Float → Float → Float) (k p m : ℕ) (a t₀ : List Float) {t : List Float} → p + m ≤ length a → m ≤ length t₀
+    → ((i : ℕ) → k ≤ i → (x y : Float) → h i x y ≡ f i x y)
+    → t ≡ mixedInto h k (length (midOf p (p + m - p) a)) (midOf p (p + m - p) a) t₀
+    → (i : ℕ) → i < m → getD t i nan ≡ f (k + i) (getD a (p + i) nan) (getD t₀ i nan)
+part-mixed f h k p m a t₀ {t} hp ht same e i l =
+    let n : length (midOf p (p + m - p) a) ≡ m = part-length a p m hp in
+    mixed-at h k (midOf p (p + m - p) a) t₀ (length (midOf p (p + m - p) a)) e (omega arith) i (omega arith)
+    ∙ same (k + i) (omega arith) (getD (midOf p (p + m - p) a) i nan) (getD t₀ i nan)
+    ∙ ap (λ (v : Float). f (k + i) v (getD t₀ i nan)) (part-at a p m i l)
+
+-- a part that is filled with samples H, which are those of F
+pub samples-stored : {H : ℕ → Float} (F : ℕ → Float) (a : List Float) (p m : ℕ) {ys : List Float} → p + m ≤ length a
+    → ys ≡ sampled (length (midOf p (p + m - p) a)) H → ((i : ℕ) → i < m → H i ≡ F i) → putMid p (p + m - p) a ys ≡ sets a p (sampled m F)
+samples-stored {H} F a p m h e same = part-stored H a p m h e ∙ ap (λ (l : List Float). sets a p l) (sampled-same m H F same)
+
+-- a piece: the destination's samples go to a local, the source's are mixed into it, and it is stored
+pub piece-mixed : (f h : ℕ → Float → Float → Float) (from to m k : ℕ) (a t₀ : List Float) {t₁ t₂ ys : List Float}
+    → from + m ≤ length a → to + m ≤ length a → m ≤ length t₀ → ((i : ℕ) → k ≤ i → (x y : Float) → h i x y ≡ f i x y)
+    → t₁ ≡ mixedInto (λ k x y. x) 0 (length (midOf to (to + m - to) a)) (midOf to (to + m - to) a) t₀
+    → t₂ ≡ mixedInto h k (length (midOf from (from + m - from) a)) (midOf from (from + m - from) a) t₁
+    → ys ≡ sampled (length (midOf to (to + m - to) a)) (λ i. getD t₂ i nan)
+    → putMid to (to + m - to) a ys ≡ mixedAt f from to m k a
+piece-mixed f h from to m k a t₀ {t₁} {t₂} hf ht h₀ same e₁ e₂ e₃ =
+    let n : length t₁ ≡ length t₀ = ap length e₁ ∙ length-mixed (λ k x y. x) 0 (midOf to (to + m - to) a) t₀ (length (midOf to (to + m - to) a)) in
+    samples-stored (λ i. f (k + i) (getD a (from + i) nan) (getD a (to + i) nan)) a to m ht e₃
+    (λ i l. part-mixed f h k from m a t₁ hf (omega arith) same e₂ i l
+    ∙ ap (λ (v : Float). f (k + i) (getD a (from + i) nan) v) (part-mixed (λ k x y. x) (λ k x y. x) 0 to m a t₀ ht h₀ (λ i l x y. refl) e₁ i l))
+
+-- ---- the pieces of a buffer
+module _ (f : ℕ → Float → Float → Float) (block s d : ℕ) (a : List Float) (pair : Pair block s d a) where
+  abbrev made : ℕ → Float
+  made k = f k (sample block a s k) (sample block a d k)
+
+  pub piece-more : (n m : ℕ) {b c : List Float} → n + m ≤ block → b ≡ sets a (d * block) (sampled n made)
+      → c ≡ mixedAt f (s * block + n) (d * block + n) m n b → c ≡ sets a (d * block) (sampled (n + m) made)
+  piece-more n m {b} h e g =
+      run-more made a (d * block) (λ i. f (n + i) (getD b (s * block + n + i) nan) (getD b (d * block + n + i) nan)) n m e g
+      (λ i l. ap (λ (j : ℕ). f (n + i) (getD b j nan) (getD b (d * block + n + i) nan)) (add-assoc (s * block) n i)
+      ∙ ap (λ (j : ℕ). f (n + i) (getD b (s * block + (n + i)) nan) (getD b j nan)) (add-assoc (d * block) n i)
+      ∙ ap (λ (l : List Float). f (n + i) (sample block l s (n + i)) (sample block l d (n + i))) e
+      ∙ ap (λ (v : Float). f (n + i) v (sample block (sets a (d * block) (sampled n made)) d (n + i)))
+      (begun-other block d n made a s (n + i) (pair .apart) (omega arith) (omega arith))
+      ∙ ap (λ (v : Float). f (n + i) (sample block a s (n + i)) v) (begun-same block d n made a (n + i) (omega arith)))
+
+  pub pieces-start : a ≡ sets a (d * block) (sampled (16 * 0) made)
+  pieces-start = none-stored made a (d * block)
+
+  pub piece-of-16 : (i : ℕ) {b c : List Float} → 16 * i + 16 ≤ block → b ≡ sets a (d * block) (sampled (16 * i) made)
+      → c ≡ mixedAt f (s * block + 16 * i) (d * block + 16 * i) 16 (16 * i) b → c ≡ sets a (d * block) (sampled (16 * (i + 1)) made)
+  piece-of-16 i h e g = let w : 16 * (i + 1) ≡ 16 * i + 16 = omega arith in rw w (piece-more (16 * i) 16 h e g)
+
+  pub all-pieces : (i : ℕ) {b : List Float} → 16 * i ≡ block → b ≡ sets a (d * block) (sampled (16 * i) made) → b ≡ put block d made a
+  all-pieces i h e = rw h at e
+
+  pub last-piece : (i : ℕ) {b c : List Float} → 16 * i ≤ block → b ≡ sets a (d * block) (sampled (16 * i) made)
+      → c ≡ mixedAt f (s * block + 16 * i) (d * block + 16 * i) (block - 16 * i) (16 * i) b → c ≡ put block d made a
+  last-piece i h e g = let w : 16 * i + (block - 16 * i) ≡ block = omega arith in rw w at (piece-more (16 * i) (block - 16 * i) (omega arith) e g)

@@ -1,0 +1,118 @@
+-- A row of a Matrix that is made piece by piece, all its columns at each piece, is the row that is made column by column. Assumes nothing.
+use mathlib.Core.Path.{_≡_, refl, sym, ap, _∙_}
+use mathlib.Core.Bool.{true, false}
+use mathlib.Core.List.{List, [], _∷_}
+use Prim.Native.Nat.{ℕ, suc, _+_, _*_, _≤_, _<_}
+use native.Mathlib.Nat.{add-zero, add-suc, add-assoc}
+use native.Mathlib.Numerals.{add-one}
+use native.Mathlib.Omega.{arith}
+use lib.ListN.{length, getD, drop, replicate, drop-of-length-le, getD-replicate}
+use lib.Seq.{sets, drop-cons}
+use lib.Ieee.{Float, nan}
+use Rattle.node.specs.declared.Gain.{Gain}
+use Rattle.mix.specs.Samples.{silence, sample, sampled, put}
+use Rattle.mix.specs.Mix.{silent, added, mixIn, clearBuffer, columns, Inside, NotIn, Row}
+use Rattle.mix.specs.Loops.{plusScaled, rowSample}
+use Rattle.mix.proofs.Stored.{run-more, none-stored}
+use Rattle.mix.proofs.Put.{begun-other, put-sample, put-other, put-same, put-put}
+
+-- a gain at rest equal to 0, and any other
+module _ (g : Gain) (k : ℕ) (x y : Float) where
+  pub not-added : silent g ≡ true → y ≡ added g k x y
+  unfolding added
+  not-added h = rw h
+
+  pub is-added : silent g ≡ false → plusScaled g k x y ≡ added g k x y
+  unfolding added
+  is-added h = rw h
+
+-- what starts at the samples of a new local starts at +0
+pub from-silence : {H : ℕ → Float} (f : ℕ → Float → Float) (m : ℕ) → m ≤ 16 → ((i : ℕ) → i < m → H i ≡ f i (getD (replicate 16 silence) i nan))
+    → (i : ℕ) → i < m → H i ≡ f i silence
+from-silence f m h e i l = e i l ∙ ap (λ (y : Float). f i y) (getD-replicate 16 i silence nan (omega arith))
+
+module _ (block : ℕ) (gain : ℕ → Gain) where
+  -- ---- the columns, one after the other over the whole buffer, are one sum at each sample
+  pub columns-put : (v : ℕ) (src : List ℕ) (d : ℕ) (F : ℕ → Float) (area : List Float) → Inside block d area → NotIn d src
+      → columns block gain v src d (put block d F area) ≡ put block d (λ k. rowSample block gain v src area k (F k)) area
+  unfolding columns rowSample
+  columns-put v [] d F area h o = refl
+  columns-put v (s ∷ src) d F area h o =
+      let b : List Float = put block d F area in
+      let G : ℕ → Float = λ k. added (gain v) k (sample block area s k) (F k) in
+      let e : mixIn block (gain v) s d b ≡ put block d G area =
+      put-same block d (λ k. added (gain v) k (sample block b s k) (sample block b d k)) b G
+      (λ k l. ap (λ (x : Float). added (gain v) k x (sample block b d k)) (put-other block d F area s k (λ w. o 0 (omega arith) (sym w)) l)
+      ∙ ap (λ (y : Float). added (gain v) k (sample block area s k) y) (put-sample block d F area k l h))
+      ∙ put-put block d F area G h in
+      ap (λ (z : List Float). columns block gain (suc v) src d z) e
+      ∙ columns-put (suc v) src d G area h (λ i l. o (suc i) (omega arith))
+
+  -- only the sources' samples count
+  row-same : (v : ℕ) (src : List ℕ) (a b : List Float) (k : ℕ) (y : Float)
+      → ((i : ℕ) → i < length src → sample block b (getD src i 0) k ≡ sample block a (getD src i 0) k)
+      → rowSample block gain v src b k y ≡ rowSample block gain v src a k y
+  unfolding rowSample
+  row-same v [] a b k y h = refl
+  row-same v (s ∷ src) a b k y h =
+      ap (λ (x : Float). rowSample block gain (suc v) src b k (added (gain v) k x y)) (h 0 (omega arith))
+      ∙ row-same (suc v) src a b k (added (gain v) k (sample block a s k) y) (λ i l. h (suc i) (omega arith))
+
+  -- ---- the columns of a piece in a local t: none, one more, and all
+  module _ (v : ℕ) (src : List ℕ) (area : List Float) (j m : ℕ) (t₀ : List Float) where
+    -- what is left to do from column c on makes what there is to do in all
+    unfoldable pub Left : ℕ → List Float → Type 0
+    Left c t =
+        (i : ℕ) → i < m
+        → rowSample block gain (v + c) (drop c src) area (j + i) (getD t i nan) ≡ rowSample block gain v src area (j + i) (getD t₀ i nan)
+
+    pub columns-left : Left 0 t₀
+    unfolding Left
+    columns-left i l = rw add-zero
+
+    pub column-done : (c : ℕ) (g : Gain) (t t′ : List Float) → c < length src → g ≡ gain (v + c) → Left c t
+        → ((i : ℕ) → i < m → getD t′ i nan ≡ added g (j + i) (getD area (getD src c 0 * block + j + i) nan) (getD t i nan))
+        → Left (c + 1) t′
+    unfolding rowSample Left
+    column-done c g t t′ h e left done i l =
+        let s : ℕ = getD src c 0 in
+        let w : getD t′ i nan ≡ added (gain (v + c)) (j + i) (sample block area s (j + i)) (getD t i nan) =
+        done i l
+        ∙ ap (λ (z : Gain). added z (j + i) (getD area (s * block + j + i) nan) (getD t i nan)) e
+        ∙ ap (λ (p : ℕ). added (gain (v + c)) (j + i) (getD area p nan) (getD t i nan)) (add-assoc (s * block) j i) in
+        rw (add-one c, add-suc v c)
+        (ap (λ (y : Float). rowSample block gain (suc (v + c)) (drop (suc c) src) area (j + i) y) w
+        ∙ sym (ap (λ (l : List ℕ). rowSample block gain (v + c) l area (j + i) (getD t i nan)) (drop-cons src c 0 h))
+        ∙ left i l)
+
+    pub columns-done : (c : ℕ) (t : List Float) → length src ≤ c → Left c t
+        → (i : ℕ) → i < m → getD t i nan ≡ rowSample block gain v src area (j + i) (getD t₀ i nan)
+    unfolding rowSample Left
+    columns-done c t h left i l =
+        sym (ap (λ (l : List ℕ). rowSample block gain (v + c) l area (j + i) (getD t i nan)) (drop-of-length-le src {i = c} h)) ∙ left i l
+
+  -- ---- the pieces of a row
+  module _ (v : ℕ) (src : List ℕ) (d : ℕ) (a : List Float) (row : Row block src d a) where
+    abbrev made : ℕ → Float
+    made k = rowSample block gain v src a k silence
+
+    pub row-start : a ≡ sets a (d * block) (sampled (16 * 0) made)
+    row-start = none-stored made a (d * block)
+
+    pub row-piece : (n m : ℕ) {b c : List Float} → n + m ≤ block → b ≡ sets a (d * block) (sampled n made)
+        → c ≡ sets b (d * block + n) (sampled m (λ i. rowSample block gain v src b (n + i) silence))
+        → c ≡ sets a (d * block) (sampled (n + m) made)
+    row-piece n m {b} h e g =
+        run-more made a (d * block) (λ i. rowSample block gain v src b (n + i) silence) n m e g
+        (λ i l. ap (λ (z : List Float). rowSample block gain v src z (n + i) silence) e
+        ∙ row-same v src a (sets a (d * block) (sampled n made)) (n + i) silence
+        (λ j q. begun-other block d n made a (getD src j 0) (n + i) (λ w. row .apart j q (sym w)) (omega arith) (omega arith)))
+
+    pub row-piece-of-16 : (i : ℕ) {b c : List Float} → 16 * i + 16 ≤ block → b ≡ sets a (d * block) (sampled (16 * i) made)
+        → c ≡ sets b (d * block + 16 * i) (sampled 16 (λ k. rowSample block gain v src b (16 * i + k) silence))
+        → c ≡ sets a (d * block) (sampled (16 * (i + 1)) made)
+    row-piece-of-16 i h e g = let w : 16 * (i + 1) ≡ 16 * i + 16 = omega arith in rw w (row-piece (16 * i) 16 h e g)
+
+    pub row-done : {b : List Float} (n : ℕ) → n ≡ block → b ≡ sets a (d * block) (sampled n made)
+        → b ≡ columns block gain v src d (clearBuffer block d a)
+    row-done n w e = (rw w at e) ∙ sym (columns-put v src d (λ k. silence) a (row .target) (row .apart))

@@ -1,0 +1,39 @@
+-- What the contracts of the loops over pieces of a buffer cite. Definitions only.
+use Prim.Native.Nat.{ℕ, suc, _+_, _≤_}
+use mathlib.Core.List.{List, [], _∷_}
+use lib.ListN.{length, getD}
+use lib.Seq.{sets}
+use lib.Ieee.{Float, nan, binary32, add, mul}
+use Rattle.node.specs.declared.Gain.{Gain}
+use Rattle.node.specs.Nodes.{factor}
+use Rattle.mix.specs.Samples.{sample, sampled}
+use Rattle.mix.specs.Mix.{maxBlock, added}
+
+-- ---- one sample, with nothing skipped
+
+abbrev pub plusScaled : Gain → ℕ → Float → Float → Float
+plusScaled g k x y = add binary32 y (mul binary32 x (factor g k))
+
+abbrev pub plusWeighted : Float → Gain → ℕ → Float → Float → Float
+plusWeighted w g k x y = add binary32 y (mul binary32 (mul binary32 x w) (factor g k))
+
+-- sample k of a row of a Matrix: y, with the sample of each source added, by its gain from value v on
+unfoldable pub rowSample : ℕ → (ℕ → Gain) → ℕ → List ℕ → List Float → ℕ → Float → Float
+rowSample block gain v [] area k y = y
+rowSample block gain v (s ∷ src) area k y = rowSample block gain (suc v) src area k (added (gain v) k (sample block area s k) y)
+
+-- ---- a piece: m samples, from sample k on
+
+-- the first m samples of y, each from that of x and its own
+unfoldable pub mixedInto : (ℕ → Float → Float → Float) → ℕ → ℕ → List Float → List Float → List Float
+mixedInto f k m x y = sets y 0 (sampled m (λ i. f (k + i) (getD x i nan) (getD y i nan)))
+
+-- those of the area from `to` on, each from that from `from` on and its own
+abbrev pub mixedAt : (ℕ → Float → Float → Float) → ℕ → ℕ → ℕ → ℕ → List Float → List Float
+mixedAt f from to m k area = sets area to (sampled m (λ i. f (k + i) (getD area (from + i) nan) (getD area (to + i) nan)))
+
+pub record Piece (from to m k : ℕ) (area : List Float) : Type 0 where
+  pub source : from + m ≤ length area
+  pub target : to + m ≤ length area
+  pub short : m ≤ 16
+  pub within : k + m ≤ maxBlock

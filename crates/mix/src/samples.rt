@@ -1,0 +1,136 @@
+// A gain at a sample, and the loops over the samples of one piece.
+use node::Gain;
+ghost use mathlib.Core.Path.{_≡_};
+ghost use Prim.Native.Nat.{ℕ, _+_, _≤_, _<_};
+ghost use mathlib.Core.Bool.{cond};
+ghost use lib.ListN.{length, getD};
+ghost use lib.Ieee.{nan};
+ghost use Rattle.node.specs.Nodes.{factor};
+ghost use Rattle.mix.specs.Samples.{silence, sampled};
+ghost use Rattle.mix.specs.Mix.{maxBlock, silent, scaled};
+ghost use Rattle.mix.specs.Loops.{plusScaled, plusWeighted, mixedInto};
+
+// One of two values. Both are worked out before, so that LLVM makes a select of it and the sample loops stay without a branch.
+fn either(first: bool, x: f32, y: f32) -> f32
+    ensures { λ r. ⌜ r ≡ cond first x y ⌝ }
+{
+    if first { x } else { y }
+}
+
+// `Gain::factor` for the sample loops: a cast from u16 is fast. Requires a sample of a block.
+fn at(g: Gain, k: u32) -> f32
+    requires { ⌜ k < maxBlock ⌝ }
+    ensures { λ r. ⌜ r ≡ factor g k ⌝ }
+{
+    match g {
+        Gain::Rest(t) => t,
+        Gain::Moving(cur, step, t, left) => {
+            let i = (k + 1) as u16;
+            either(k < left, cur + step * (i as f32), t)
+        }
+    }
+}
+
+// The gain for samples k on: at rest once its ramp is over.
+pub fn later(g: Gain, k: u32) -> Gain
+    ensures { λ r. ⌜ ((i : ℕ) → k ≤ i → factor r i ≡ factor g i) ⌝ }
+{
+    match g {
+        Gain::Rest(t) => Gain::Rest(t),
+        Gain::Moving(cur, step, t, left) => {
+            if k < left {
+                Gain::Moving(cur, step, t, left)
+            } else {
+                Gain::Rest(t)
+            }
+        }
+    }
+}
+
+// At rest and equal to 0.
+pub fn is_silent(g: Gain) -> bool
+    ensures { λ r. ⌜ r ≡ silent g ⌝ }
+{
+    match g {
+        Gain::Rest(t) => t == 0.0,
+        Gain::Moving(_, _, _, _) => false,
+    }
+}
+
+// y[i] = x[i] * gain, where x starts at sample k. Requires at most 16 samples of a block.
+pub fn scale_samples(x: &[f32], y: &mut [f32; 16], k: usize, g: Gain)
+    requires { ⌜ (length (now x) ≤ 16) × (k + length (now x) ≤ maxBlock) ⌝ }
+    requires { ⌜ length (now y) ≡ 16 ⌝ }
+    ensures { λ _. ⌜ length (now (y .exit)) ≡ 16 ⌝ }
+    ensures { λ _. ⌜ now (y .exit) ≡ mixedInto (λ k x y. scaled g k x) k (length (now (x .entry))) (now (x .entry)) (now (y .entry)) ⌝ }
+{
+    for i in 0..x.len() {
+        y[i] = x[i] * at(g, (k + i) as u32);
+    }
+}
+
+// y[i] += x[i] * gain, where x starts at sample k. Requires at most 16 samples of a block.
+pub fn add_samples(x: &[f32], y: &mut [f32; 16], k: usize, g: Gain)
+    requires { ⌜ (length (now x) ≤ 16) × (k + length (now x) ≤ maxBlock) ⌝ }
+    requires { ⌜ length (now y) ≡ 16 ⌝ }
+    ensures { λ _. ⌜ length (now (y .exit)) ≡ 16 ⌝ }
+    ensures { λ _. ⌜ now (y .exit) ≡ mixedInto (plusScaled g) k (length (now (x .entry))) (now (x .entry)) (now (y .entry)) ⌝ }
+{
+    for i in 0..x.len() {
+        y[i] = y[i] + x[i] * at(g, (k + i) as u32);
+    }
+}
+
+// y[i] += x[i] * w * gain, where x starts at sample k. Requires at most 16 samples of a block.
+pub fn weigh_samples(x: &[f32], y: &mut [f32; 16], k: usize, w: f32, g: Gain)
+    requires { ⌜ (length (now x) ≤ 16) × (k + length (now x) ≤ maxBlock) ⌝ }
+    requires { ⌜ length (now y) ≡ 16 ⌝ }
+    ensures { λ _. ⌜ length (now (y .exit)) ≡ 16 ⌝ }
+    ensures { λ _. ⌜ now (y .exit) ≡ mixedInto (plusWeighted w g) k (length (now (x .entry))) (now (x .entry)) (now (y .entry)) ⌝ }
+{
+    for i in 0..x.len() {
+        y[i] = y[i] + x[i] * w * at(g, (k + i) as u32);
+    }
+}
+
+// y starts with x. Requires at most 16 samples.
+pub fn load(x: &[f32], y: &mut [f32; 16])
+    requires { ⌜ length (now x) ≤ 16 ⌝ }
+    requires { ⌜ length (now y) ≡ 16 ⌝ }
+    ensures { λ _. ⌜ length (now (y .exit)) ≡ 16 ⌝ }
+    ensures { λ _. ⌜ now (y .exit) ≡ mixedInto (λ k x y. x) 0 (length (now (x .entry))) (now (x .entry)) (now (y .entry)) ⌝ }
+{
+    for i in 0..x.len() {
+        y[i] = x[i];
+    }
+}
+
+// y becomes the start of x. Requires at most 16 samples.
+pub fn store(x: &[f32; 16], y: &mut [f32])
+    requires { ⌜ length (now y) ≤ 16 ⌝ }
+    requires { ⌜ length (now x) ≡ 16 ⌝ }
+    ensures { λ _. ⌜ now (y .exit) ≡ sampled (length (now (y .entry))) (λ i. getD (now (x .entry)) i nan) ⌝ }
+{
+    for i in 0..y.len() {
+        y[i] = x[i];
+    }
+}
+
+// y becomes the start of x. Requires an x that is long enough.
+pub fn copy(x: &[f32], y: &mut [f32])
+    requires { ⌜ length (now y) ≤ length (now x) ⌝ }
+    ensures { λ _. ⌜ now (y .exit) ≡ sampled (length (now (y .entry))) (λ i. getD (now (x .entry)) i nan) ⌝ }
+{
+    for i in 0..y.len() {
+        y[i] = x[i];
+    }
+}
+
+// +0 in all of y.
+pub fn fill(y: &mut [f32])
+    ensures { λ _. ⌜ now (y .exit) ≡ sampled (length (now (y .entry))) (λ i. silence) ⌝ }
+{
+    for i in 0..y.len() {
+        y[i] = 0.0;
+    }
+}
