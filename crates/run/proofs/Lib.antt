@@ -1,0 +1,26 @@
+-- Laws that belong to no one function, for the crates above too.
+
+-- the channel lookup and the directory
+pub mod Input
+-- what a setting's answer says, and what the call leaves
+pub mod Setting
+-- the answers of the admission, and what an accepted run says
+pub mod Admission
+-- the channels of the output, step by step
+pub mod Counting
+-- what the plan check said of a step, as the sample loops ask for it
+pub mod Fits
+-- which steps write samples, and how many
+pub mod Outputs
+-- what holds between two steps
+pub mod Going
+-- what a run answers and leaves, by its admission
+pub mod Answers
+-- lengths that a run keeps, and the nodes after it, which depend on no sample
+pub mod States
+-- what a run leaves as it was
+pub mod Kept
+-- the samples left of a ramp after any calls
+pub mod Ramps
+-- a plan that was accepted stays accepted, and refused calls change nothing
+pub mod Ready

@@ -1,0 +1,216 @@
+-- A plan whose run was accepted stays accepted: whatever settings and runs follow, only the input block and the output area can be refused later.
+-- An accepted setting changes no answer of the admission. Assumes nothing.
+use mathlib.Core.Path.{_≡_, refl, sym, ap, _∙_}
+use mathlib.Core.Bool.{Bool, false}
+use mathlib.Core.List.{List, [], _∷_, map}
+use Prim.Native.Nat.{ℕ, _*_, _<_}
+use lib.Dec.{ltb}
+use lib.ListN.{length}
+use lib.Ieee.{Float}
+use Rattle.refusal.specs.Numbers.{badNode, badDirectory, shortOutput}
+use Rattle.refusal.specs.Tests.{Test, test, first}
+use Rattle.refusal.specs.declared.Refusal.{Refusal}
+use Rattle.refusal.specs.declared.Answer.{Answer}
+use Rattle.refusal.specs.declared.Answer.the-variants.{Accepted, Refused}
+use Rattle.refusal.proofs.Laws.{first-append, accepted-none, none-rest, none-accepted, refused-rest}
+use Rattle.node.specs.declared.Node.{Node}
+use Rattle.node.specs.Nodes.{setNode}
+use Rattle.node.specs.Areas.{idAt, nodeAt, someBad}
+use Rattle.node.proofs.Kept.{id-set}
+use Rattle.node.proofs.Areas.{length-stored-floats, length-stored-words}
+use Rattle.node.proofs.Bad.{in-range-set}
+use Rattle.plan.specs.declared.Plan.{Plan}
+use Rattle.plan.specs.declared.Step.{Step}
+use Rattle.plan.specs.declared.Step.the-variants.{Patch, Gain, Matrix, Clear, Send, Output}
+use Rattle.plan.specs.Sound.{Inside, Each, stepsOf}
+use Rattle.plan.specs.Resolved.{resolved}
+use Rattle.plan.proofs.Exact.{accepted-sound}
+use Rattle.plan.specs.Areas.{Areas, areas, shortAreas}
+use Rattle.plan.specs.Check.{planTests, checked, checkPlan}
+use Rattle.plan.proofs.Accepted.{accepted-room}
+use Rattle.plan.proofs.Front.{check-front}
+use Rattle.run.specs.Input.{lookup, directoryBad}
+use Rattle.run.specs.Setting.{nodeOf}
+use Rattle.run.specs.Run.{Given, State, outputChannels, admission, processed, runSteps}
+use Rattle.run.specs.Calls.{Fixed, Held, held, Call, set, run, givenTo, start, answer, after, afterAll, stepsOfPlan}
+use Rattle.run.proofs.Answers.{accepted-runs, refused-keeps}
+use Rattle.run.proofs.Setting.{Settable, settable, node-named, floats-accepted, floats-refused, words-accepted, words-refused, node-good}
+use Rattle.run.proofs.States.{Good, good-stored, good-run, run-lengths, NodesBelow}
+
+-- lists of tests that answer the same with nothing after them answer the same whatever comes after
+first-same : (ts us : List Test) (rest : Answer) → first ts Accepted ≡ first us Accepted → first ts rest ≡ first us rest
+first-same ts us rest e = go (first us Accepted) refl
+  where
+    go : (a : Answer) → first us Accepted ≡ a → first ts rest ≡ first us rest
+    go Accepted q = none-rest ts rest (accepted-none ts Accepted (e ∙ q) .0) ∙ sym (none-rest us rest (accepted-none us Accepted q .0))
+    go (Refused r) q = refused-rest ts rest r (e ∙ q) ∙ sym (refused-rest us rest r q)
+
+-- ---- the areas of a plan
+
+abbrev pub areasOf : Fixed → Held → Areas
+areasOf f h = areas (f .indices) (f .coefficients) (h .floats) (h .words) (f .steps) (h .buffers)
+
+-- the tests of a run: the plan's, then 14, then 12 and 13, which are about the input block and the output area alone
+abbrev pub inputTests : Fixed → List ℕ → List Float → List Float → List Test
+inputTests f directory samples out =
+    test badDirectory (directoryBad directory (length samples)) ∷ test shortOutput (ltb (length out) (outputChannels (stepsOfPlan f) * f .plan .block)) ∷ []
+
+abbrev planTestsOf : Fixed → Held → List Test
+planTestsOf f h = planTests (f .plan) (shortAreas (f .plan) (areasOf f h)) (f .indices) (h .words) (f .steps)
+
+abbrev nodeTest : Fixed → Held → Test
+nodeTest f h = test badNode (someBad (h .words) (f .plan .nodes))
+
+in-turn : (f : Fixed) (h : Held) (directory : List ℕ) (samples out : List Float)
+    → admission (givenTo f directory samples) (start f h out) ≡ first (planTestsOf f h) (first (nodeTest f h ∷ inputTests f directory samples out) Accepted)
+unfolding admission
+in-turn f h directory samples out = first-append (planTestsOf f h) (nodeTest f h ∷ inputTests f directory samples out) Accepted
+
+-- areas as long as they were, and the same ids
+pub record Alike (f : Fixed) (h t : Held) : Type 0 where
+  pub floats : length (t .floats) ≡ length (h .floats)
+  pub words : length (t .words) ≡ length (h .words)
+  pub buffers : length (t .buffers) ≡ length (h .buffers)
+  pub ids : (i : ℕ) → i < f .plan .nodes → idAt (t .words) i ≡ idAt (h .words) i
+
+-- the plan check answers the same
+pub alike-checked : (f : Fixed) (h t : Held) → Alike f h t → checkPlan (f .plan) (areasOf f t) ≡ checkPlan (f .plan) (areasOf f h)
+alike-checked f h t a =
+    rw (a .floats, a .words, a .buffers)
+    (check-front (f .plan) (shortAreas (f .plan) (areasOf f h)) (f .indices) (f .indices) (t .words) (h .words) (f .steps) (f .steps) refl (a .ids) refl)
+
+-- ---- a setting
+
+module _ (f : Fixed) (h : Held) (id : ℕ) (values : List Float) (ramp : ℕ) (e : answer f h (set id values ramp) ≡ Accepted) where
+  abbrev count : ℕ
+  count = f .plan .nodes
+
+  abbrev tests : Settable count id ramp (length (h .floats)) (h .words)
+  tests = settable count id ramp (length (h .floats)) (h .words) e
+
+  abbrev n : ℕ
+  n = nodeOf (h .words) count id
+
+  abbrev new : Node
+  new = setNode (nodeAt (h .floats) (h .words) n) values ramp
+
+  set-good : Good count (idAt (h .words)) (after f h (set id values ramp) .words)
+  unfolding nodeAt
+  set-good =
+      rw (words-accepted count id values ramp (h .floats) (h .words) e)
+      (good-stored count (idAt (h .words)) n (h .words) new
+      (record { room = tests .words-room; ids-are = λ i l. refl; none-bad = tests .bad })
+      (node-named (h .words) count id (tests .id-known) .0)
+      (in-range-set (nodeAt (h .floats) (h .words) n) values ramp (node-good (h .floats) tests) (tests .ramp-short))
+      (id-set (nodeAt (h .floats) (h .words) n) values ramp))
+
+  pub set-alike : Alike f h (after f h (set id values ramp))
+  set-alike =
+      record {
+        floats = ap length (floats-accepted count id values ramp (h .floats) (h .words) e) ∙ length-stored-floats (h .floats) n new;
+        words = ap length (words-accepted count id values ramp (h .floats) (h .words) e) ∙ length-stored-words (h .words) n new;
+        buffers = refl;
+        ids = set-good .ids-are;
+      }
+
+  -- an accepted setting changes no answer of the admission
+  pub setting-same : (directory : List ℕ) (samples out : List Float)
+      → admission (givenTo f directory samples) (start f (after f h (set id values ramp)) out) ≡ admission (givenTo f directory samples) (start f h out)
+  unfolding checked
+  setting-same directory samples out =
+      let t = after f h (set id values ramp) in
+      let others = inputTests f directory samples out in
+      in-turn f t directory samples out
+      ∙ first-same (planTestsOf f t) (planTestsOf f h) (first (nodeTest f t ∷ others) Accepted) (alike-checked f h t set-alike)
+      ∙ ap (first (planTestsOf f h)) (ap (λ (b : Bool). first (test badNode b ∷ others) Accepted) (set-good .none-bad ∙ sym (tests .bad)))
+      ∙ sym (in-turn f h directory samples out)
+
+-- ---- a plan that stays accepted
+
+-- the plan's own tests and 14 pass
+pub record Ready (f : Fixed) (h : Held) : Type 0 where
+  pub plan : checkPlan (f .plan) (areasOf f h) ≡ Accepted
+  pub nodes : someBad (h .words) (f .plan .nodes) ≡ false
+
+-- so it is once a run was accepted
+pub accepted-ready : (f : Fixed) (h : Held) (directory : List ℕ) (samples out : List Float) → answer f h (run directory samples out) ≡ Accepted → Ready f h
+unfolding checked
+accepted-ready f h directory samples out e =
+    let own = nodeTest f h ∷ inputTests f directory samples out in
+    let t = accepted-none (planTestsOf f h) (first own Accepted) (sym (in-turn f h directory samples out) ∙ e) in
+    record { plan = none-accepted (planTestsOf f h) (t .0); nodes = accepted-none own Accepted (t .1) .0 .0 }
+
+-- and then only 12 and 13 are left to the admission
+pub ready-only : (f : Fixed) (h : Held) → Ready f h → (directory : List ℕ) (samples out : List Float)
+    → admission (givenTo f directory samples) (start f h out) ≡ first (inputTests f directory samples out) Accepted
+unfolding checked
+ready-only f h r directory samples out =
+    let others = inputTests f directory samples out in
+    in-turn f h directory samples out
+    ∙ none-rest (planTestsOf f h) (first (nodeTest f h ∷ others) Accepted) (accepted-none (planTestsOf f h) Accepted (r .plan) .0)
+    ∙ ap (λ (b : Bool). first (test badNode b ∷ others) Accepted) (r .nodes)
+
+-- the nodes that an accepted plan's steps use are among its nodes
+below : (p : Plan) (indices : List ℕ) (coefficients : List Float) (ss : List Step) → Each (Inside p) ss → NodesBelow (p .nodes) (map (resolved indices coefficients) ss)
+below p indices coefficients [] o = tt
+below p indices coefficients (Patch i c d ∷ ss) o = below p indices coefficients ss (o .1)
+below p indices coefficients (Gain n s d ∷ ss) o = (o .0 .0, below p indices coefficients ss (o .1))
+below p indices coefficients (Matrix n s d ∷ ss) o = (o .0 .0, below p indices coefficients ss (o .1))
+below p indices coefficients (Clear d ∷ ss) o = below p indices coefficients ss (o .1)
+below p indices coefficients (Send n s d c ∷ ss) o = (o .0 .0, below p indices coefficients ss (o .1))
+below p indices coefficients (Output s o′ ∷ ss) o = below p indices coefficients ss (o .1)
+
+module _ (f : Fixed) where
+  alike-ready : (h t : Held) → Ready f h → Alike f h t → someBad (t .words) (f .plan .nodes) ≡ false → Ready f t
+  alike-ready h t r a b = record { plan = alike-checked f h t a ∙ r .plan; nodes = b }
+
+  module _ (h : Held) (directory : List ℕ) (samples out : List Float) (r : Ready f h) where
+    abbrev g : Given
+    g = givenTo f directory samples
+
+    abbrev s : State
+    s = start f h out
+
+    abbrev t : State
+    t = runSteps (f .plan .block) (lookup directory samples) (stepsOfPlan f) s
+
+    ran-ready : Ready f (held t)
+    ran-ready =
+        let l = run-lengths (f .plan .block) (lookup directory samples) (stepsOfPlan f) s in
+        let inside = accepted-sound (f .plan) (shortAreas (f .plan) (areasOf f h)) (f .indices) (h .words) (f .steps) (r .plan) .inside in
+        let good = good-run (f .plan .nodes) (idAt (h .words)) (f .plan .block) (lookup directory samples) (stepsOfPlan f) s
+        (record { room = accepted-room (f .plan) (areasOf f h) (r .plan) .words; ids-are = λ i l. refl; none-bad = r .nodes })
+        (below (f .plan) (f .indices) (f .coefficients) (stepsOf (f .plan) (f .steps)) inside) in
+        alike-ready h (held t) r (record { floats = l .floats; words = l .words; buffers = l .buffers; ids = good .ids-are }) (good .none-bad)
+
+    run-ready : Ready f (after f h (run directory samples out))
+    run-ready = go (admission g s) refl
+      where
+        go : (a : Answer) → admission g s ≡ a → Ready f (held (processed g s))
+        go Accepted e = rw (accepted-runs g s e) ran-ready
+        go (Refused q) e = rw (refused-keeps g s e) r
+
+  set-ready : (h : Held) (id : ℕ) (values : List Float) (ramp : ℕ) → Ready f h → Ready f (after f h (set id values ramp))
+  set-ready h id values ramp r = go (answer f h (set id values ramp)) refl
+    where
+      go : (a : Answer) → answer f h (set id values ramp) ≡ a → Ready f (after f h (set id values ramp))
+      go Accepted e = alike-ready h (after f h (set id values ramp)) r (set-alike f h id values ramp e) (set-good f h id values ramp e .none-bad)
+      go (Refused q) e =
+          rw (floats-refused (f .plan .nodes) id values ramp (h .floats) (h .words) e, words-refused (f .plan .nodes) id values ramp (h .floats) (h .words) e) r
+
+  -- The theorem: whatever settings and runs follow, refused or not, the plan's own tests and 14 pass.
+  pub stays-ready : (cs : List Call) (h : Held) → Ready f h → Ready f (afterAll f h cs)
+  stays-ready [] h r = r
+  stays-ready (set id values ramp ∷ cs) h r = stays-ready cs (after f h (set id values ramp)) (set-ready h id values ramp r)
+  stays-ready (run directory samples out ∷ cs) h r = stays-ready cs (after f h (run directory samples out)) (run-ready h directory samples out r)
+
+  -- a refused run changes nothing
+  pub refused-run : (h : Held) (directory : List ℕ) (samples out : List Float) (q : Refusal) → answer f h (run directory samples out) ≡ Refused q
+      → processed (givenTo f directory samples) (start f h out) ≡ start f h out
+  refused-run h directory samples out q e = refused-keeps (givenTo f directory samples) (start f h out) e
+
+  -- nor does a refused setting
+  pub refused-set : (h : Held) (id : ℕ) (values : List Float) (ramp : ℕ) (q : Refusal) → answer f h (set id values ramp) ≡ Refused q
+      → after f h (set id values ramp) ≡ h
+  refused-set h id values ramp q e =
+      rw (floats-refused (f .plan .nodes) id values ramp (h .floats) (h .words) e, words-refused (f .plan .nodes) id values ramp (h .floats) (h .words) e)

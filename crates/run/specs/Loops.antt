@@ -1,0 +1,76 @@
+-- What the contracts of the private functions cite: the channels that a step appends to the output, and what the steps take for granted.
+-- Definitions only.
+use Prim.Native.Nat.{ℕ, _+_, _*_, _≤_, _<_}
+use mathlib.Core.Path.{_≡_}
+use mathlib.Core.Bool.{Bool, true, false}
+use mathlib.Core.List.{List, [], _∷_}
+use lib.ListN.{length}
+use lib.Ieee.{Float}
+use Rattle.node.specs.declared.Node.{Node}
+use Rattle.node.specs.Nodes.{finishBlock}
+use Rattle.node.specs.Areas.{Room, nodeAt, someBad}
+use Rattle.plan.specs.declared.Plan.{Plan}
+use Rattle.plan.specs.declared.Span.{Span}
+use Rattle.plan.specs.declared.Step.{Step}
+use Rattle.plan.specs.declared.Step.the-variants.{Patch, Gain, Matrix, Clear, Send, Output}
+use Rattle.plan.specs.Limits.{maxBlock, unitLimits}
+use Rattle.plan.specs.Sound.{Within, Inside, Narrow, Apart, IndexList}
+use Rattle.run.specs.Run.{State}
+
+-- ---- the output
+
+abbrev pub channels : Step → ℕ
+channels (Patch i c d) = 0
+channels (Gain n s d) = 0
+channels (Matrix n s d) = 0
+channels (Clear d) = 0
+channels (Send n s d c) = 0
+channels (Output s o) = s .len
+
+abbrev pub isOutput : Step → Bool
+isOutput (Patch i c d) = false
+isOutput (Gain n s d) = false
+isOutput (Matrix n s d) = false
+isOutput (Clear d) = false
+isOutput (Send n s d c) = false
+isOutput (Output s o) = true
+
+unfoldable pub channelsOf : List Step → ℕ
+channelsOf [] = 0
+channelsOf (x ∷ xs) = channels x + channelsOf xs
+
+-- ---- what the tests said
+
+-- of the plan and its areas, at any step
+pub record Fit (p : Plan) (indices : List ℕ) (coefficients : List Float) (s : State) : Type 0 where
+  pub block : p .block ≤ maxBlock
+  pub steps : p .steps ≤ unitLimits .steps
+  pub list : IndexList p indices
+  pub weights : p .coefficients ≤ length coefficients
+  pub room : Room (p .nodes) (s .floats) (s .words)
+  pub good : someBad (s .words) (p .nodes) ≡ false
+  pub buffers : p .buffers * p .block ≤ length (s .buffers)
+
+-- and of one step
+pub record FitStep (p : Plan) (indices : List ℕ) (coefficients : List Float) (s : State) (x : Step) : Type 0 where
+  pub fit : Fit p indices coefficients s
+  pub inside : Inside p x
+  pub narrow : Narrow x
+  pub apart : Apart indices x
+
+-- of a step that has a node
+pub record NodeFit (p : Plan) (indices : List ℕ) (floats : List Float) (words : List ℕ) (buffers : List Float) (n : ℕ) (src dst : Span) : Type 0 where
+  pub block : p .block ≤ maxBlock
+  pub list : IndexList p indices
+  pub node : n < p .nodes
+  pub room : Room (p .nodes) floats words
+  pub good : someBad words (p .nodes) ≡ false
+  pub sources : Within (p .indices) src
+  pub targets : Within (p .indices) dst
+  pub area : p .buffers * p .block ≤ length buffers
+
+-- ---- a node
+
+-- node n at the end of a step's block
+abbrev pub ended : ℕ → List Float → List ℕ → ℕ → Node
+ended block floats words n = finishBlock (nodeAt floats words n) block

@@ -1,0 +1,69 @@
+// The input block: a directory of entries, four u32 each (input, channel, start, length), over the lent samples.
+ghost use mathlib.Core.Path.{_≡_};
+ghost use Prim.Native.Nat.{_*_, _≤_};
+ghost use lib.ListN.{length};
+ghost use Rattle.lists.specs.Parts.{part};
+ghost use Rattle.run.specs.Input.{entryWords, lookup, somePast, directoryBad};
+
+const ENTRY_WORDS: usize = 4;
+
+const MAX_ENTRIES: usize = 512;
+
+// The samples from `start` on, `len` at most.
+fn part(samples: &[f32], start: usize, len: usize) -> &[f32]
+    ensures { λ r. ⌜ now r ≡ part start len (now (samples .entry)) ⌝ }
+{
+    let n = samples.len();
+    if n <= start {
+        return &samples[n..];
+    }
+    if n - start <= len {
+        return &samples[start..];
+    }
+    let end = start + len;
+    &samples[start..end]
+}
+
+// The channel lookup: the part of the samples that the first entry for the channel names, or an empty part.
+pub fn lookup<'a>(directory: &[u32], samples: &'a [f32], input: u32, channel: u32) -> &'a [f32]
+    ensures { λ r. ⌜ now r ≡ lookup (now (directory .entry)) (now (samples .entry)) input channel ⌝ }
+{
+    let n = directory.len() / ENTRY_WORDS;
+    let mut i = 0;
+    while i < n {
+        let at = i * ENTRY_WORDS;
+        if (directory[at] == input) & (directory[at + 1] == channel) {
+            return part(
+                samples,
+                directory[at + 2] as usize,
+                directory[at + 3] as usize,
+            );
+        }
+        i += 1;
+    }
+    &samples[0..0]
+}
+
+// One of the first n entries has a part past m samples. Requires the words of all n.
+fn some_past(directory: &[u32], m: usize, n: usize) -> bool
+    requires { ⌜ n * entryWords ≤ length (now directory) ⌝ }
+    ensures { λ r. ⌜ r ≡ somePast (now (directory .entry)) m n ⌝ }
+{
+    let mut i = n;
+    while i > 0 {
+        i -= 1;
+        let at = i * ENTRY_WORDS;
+        if directory[at + 2] as usize + directory[at + 3] as usize > m {
+            return true;
+        }
+    }
+    false
+}
+
+// Number 12, for `samples` samples.
+pub fn directory_bad(directory: &[u32], samples: usize) -> bool
+    ensures { λ r. ⌜ r ≡ directoryBad (now (directory .entry)) samples ⌝ }
+{
+    let n = directory.len() / ENTRY_WORDS;
+    (directory.len() % ENTRY_WORDS != 0) | (n > MAX_ENTRIES) | some_past(directory, samples, n)
+}

@@ -1,0 +1,208 @@
+// The steps that have a node: Gain, Matrix and Send.
+use node::Node;
+use plan::Plan;
+use plan::Span;
+ghost use mathlib.Core.Path.{_≡_};
+ghost use Prim.Native.Nat.{_+_, _*_, _≤_};
+ghost use lib.ListN.{length};
+ghost use Rattle.lists.specs.Parts.{part};
+ghost use Rattle.node.specs.Sizes.{maxValues, maxRamp};
+ghost use Rattle.node.specs.Nodes.{gainOf};
+ghost use Rattle.node.specs.Areas.{Room, lenAt, nodeAt, storedFloats, storedWords};
+ghost use Rattle.plan.specs.declared.Step.the-variants as step;
+ghost use Rattle.plan.specs.Check.{named};
+ghost use Rattle.plan.specs.Sound.{Within, Disjoint, Narrow, Apart};
+ghost use Rattle.mix.specs.Mix.{gained, rows, sends};
+ghost use Rattle.run.specs.Loops.{ended, NodeFit};
+
+// A row of a node. Requires floats that reach past it.
+fn row(floats: &[f32], at: usize) -> &[f32]
+    requires { ⌜ at + maxValues ≤ length (now floats) ⌝ }
+    ensures { λ r. ⌜ now r ≡ part at maxValues (now (floats .entry)) ⌝ }
+{
+    let end = at + Node::MAX;
+    &floats[at..end]
+}
+
+// The weights of a Send. Requires a span within the coefficients.
+pub fn weights(coefficients: &[f32], span: Span) -> &[f32]
+    requires { ⌜ Within (length (now coefficients)) span ⌝ }
+    ensures { λ r. ⌜ now r ≡ part (span .start) (span .len) (now (coefficients .entry)) ⌝ }
+{
+    let start = span.start as usize;
+    let end = start + span.len as usize;
+    &coefficients[start..end]
+}
+
+// The end of a step's block of node n. Requires areas that reach past it, a len of at most MAX, and a block no longer than the longest ramp.
+fn end_block(floats: &mut [f32], words: &mut [u32], n: usize, block: usize)
+    requires { ⌜ Room (n + 1) (now floats) (now words) × (lenAt (now words) n ≤ maxValues) × (block ≤ maxRamp) ⌝ }
+    ensures floats { λ _. ⌜ now (floats .exit) ≡ storedFloats (now (floats .entry)) n (ended block (now (floats .entry)) (now (words .entry)) n) ⌝ }
+    ensures words { λ _. ⌜ now (words .exit) ≡ storedWords (now (words .entry)) n (ended block (now (floats .entry)) (now (words .entry)) n) ⌝ }
+{
+    let node = node::load(&floats[..], &words[..], n);
+    node::store(node.finish_block(block), floats, words, n);
+}
+
+// The buffers after a Gain. Requires what the plan check said of it.
+fn gain_buffers(
+    plan: Plan,
+    indices: &[u32],
+    floats: &[f32],
+    words: &[u32],
+    buffers: &mut [f32],
+    node: u32,
+    src: Span,
+    dst: Span,
+)
+    requires { ⌜ NodeFit plan (now indices) (now floats) (now words) (now buffers) node src dst ⌝ }
+    requires { ⌜ Narrow (step.Gain node src dst) × Apart (now indices) (step.Gain node src dst) ⌝ }
+    ensures { λ _. ⌜ now (buffers .exit) ≡ gained (plan .block) (gainOf (nodeAt (now (floats .entry)) (now (words .entry)) node)) 0 (named (now (indices .entry)) src) (named (now (indices .entry)) dst) (now (buffers .entry)) ⌝ }
+{
+    let n = node as usize;
+    let at = n * Node::FLOATS;
+    let cur = row(floats, at);
+    let target = row(floats, at + Node::MAX);
+    let step = row(floats, at + 2 * Node::MAX);
+    let left = words[n * Node::WORDS + 2];
+    let from = plan::numbers(indices, src);
+    let to = plan::numbers(indices, dst);
+    mix::gain(buffers, plan.block, from, to, cur, step, target, left);
+}
+
+// The buffers after a Matrix. Requires what the plan check said of it.
+fn matrix_buffers(
+    plan: Plan,
+    indices: &[u32],
+    floats: &[f32],
+    words: &[u32],
+    buffers: &mut [f32],
+    node: u32,
+    src: Span,
+    dst: Span,
+)
+    requires { ⌜ NodeFit plan (now indices) (now floats) (now words) (now buffers) node src dst ⌝ }
+    requires { ⌜ Narrow (step.Matrix node src dst) × Apart (now indices) (step.Matrix node src dst) ⌝ }
+    ensures { λ _. ⌜ now (buffers .exit) ≡ rows (plan .block) (gainOf (nodeAt (now (floats .entry)) (now (words .entry)) node)) 0 (named (now (indices .entry)) src) (named (now (indices .entry)) dst) (now (buffers .entry)) ⌝ }
+{
+    let n = node as usize;
+    let at = n * Node::FLOATS;
+    let cur = row(floats, at);
+    let target = row(floats, at + Node::MAX);
+    let step = row(floats, at + 2 * Node::MAX);
+    let left = words[n * Node::WORDS + 2];
+    let from = plan::numbers(indices, src);
+    let to = plan::numbers(indices, dst);
+    mix::matrix(buffers, plan.block, from, to, cur, step, target, left);
+}
+
+// The buffers after a Send, by the weights `w`. Requires what the plan check said of it.
+fn send_buffers(
+    plan: Plan,
+    indices: &[u32],
+    w: &[f32],
+    floats: &[f32],
+    words: &[u32],
+    buffers: &mut [f32],
+    node: u32,
+    src: Span,
+    dst: Span,
+)
+    requires { ⌜ NodeFit plan (now indices) (now floats) (now words) (now buffers) node src dst ⌝ }
+    requires { ⌜ Disjoint (named (now indices) src) (named (now indices) dst) × (src .len * dst .len ≤ length (now w)) ⌝ }
+    ensures { λ _. ⌜ now (buffers .exit) ≡ sends (plan .block) (gainOf (nodeAt (now (floats .entry)) (now (words .entry)) node) 0) (now (w .entry)) 0 (named (now (indices .entry)) src) (named (now (indices .entry)) dst) (now (buffers .entry)) ⌝ }
+{
+    let g = node::load(floats, words, node as usize).gain(0);
+    let from = plan::numbers(indices, src);
+    let to = plan::numbers(indices, dst);
+    mix::send(buffers, plan.block, from, to, w, g);
+}
+
+pub fn run_gain(
+    plan: Plan,
+    indices: &[u32],
+    floats: &mut [f32],
+    words: &mut [u32],
+    buffers: &mut [f32],
+    node: u32,
+    src: Span,
+    dst: Span,
+)
+    requires { ⌜ NodeFit plan (now indices) (now floats) (now words) (now buffers) node src dst ⌝ }
+    requires { ⌜ Narrow (step.Gain node src dst) × Apart (now indices) (step.Gain node src dst) ⌝ }
+    ensures floats { λ _. ⌜ now (floats .exit) ≡ storedFloats (now (floats .entry)) node (ended (plan .block) (now (floats .entry)) (now (words .entry)) node) ⌝ }
+    ensures words { λ _. ⌜ now (words .exit) ≡ storedWords (now (words .entry)) node (ended (plan .block) (now (floats .entry)) (now (words .entry)) node) ⌝ }
+    ensures buffers { λ _. ⌜ now (buffers .exit) ≡ gained (plan .block) (gainOf (nodeAt (now (floats .entry)) (now (words .entry)) node)) 0 (named (now (indices .entry)) src) (named (now (indices .entry)) dst) (now (buffers .entry)) ⌝ }
+{
+    gain_buffers(
+        plan,
+        indices,
+        &floats[..],
+        &words[..],
+        buffers,
+        node,
+        src,
+        dst,
+    );
+    end_block(floats, words, node as usize, plan.block);
+}
+
+pub fn run_matrix(
+    plan: Plan,
+    indices: &[u32],
+    floats: &mut [f32],
+    words: &mut [u32],
+    buffers: &mut [f32],
+    node: u32,
+    src: Span,
+    dst: Span,
+)
+    requires { ⌜ NodeFit plan (now indices) (now floats) (now words) (now buffers) node src dst ⌝ }
+    requires { ⌜ Narrow (step.Matrix node src dst) × Apart (now indices) (step.Matrix node src dst) ⌝ }
+    ensures floats { λ _. ⌜ now (floats .exit) ≡ storedFloats (now (floats .entry)) node (ended (plan .block) (now (floats .entry)) (now (words .entry)) node) ⌝ }
+    ensures words { λ _. ⌜ now (words .exit) ≡ storedWords (now (words .entry)) node (ended (plan .block) (now (floats .entry)) (now (words .entry)) node) ⌝ }
+    ensures buffers { λ _. ⌜ now (buffers .exit) ≡ rows (plan .block) (gainOf (nodeAt (now (floats .entry)) (now (words .entry)) node)) 0 (named (now (indices .entry)) src) (named (now (indices .entry)) dst) (now (buffers .entry)) ⌝ }
+{
+    matrix_buffers(
+        plan,
+        indices,
+        &floats[..],
+        &words[..],
+        buffers,
+        node,
+        src,
+        dst,
+    );
+    end_block(floats, words, node as usize, plan.block);
+}
+
+pub fn run_send(
+    plan: Plan,
+    indices: &[u32],
+    w: &[f32],
+    floats: &mut [f32],
+    words: &mut [u32],
+    buffers: &mut [f32],
+    node: u32,
+    src: Span,
+    dst: Span,
+)
+    requires { ⌜ NodeFit plan (now indices) (now floats) (now words) (now buffers) node src dst ⌝ }
+    requires { ⌜ Disjoint (named (now indices) src) (named (now indices) dst) × (src .len * dst .len ≤ length (now w)) ⌝ }
+    ensures floats { λ _. ⌜ now (floats .exit) ≡ storedFloats (now (floats .entry)) node (ended (plan .block) (now (floats .entry)) (now (words .entry)) node) ⌝ }
+    ensures words { λ _. ⌜ now (words .exit) ≡ storedWords (now (words .entry)) node (ended (plan .block) (now (floats .entry)) (now (words .entry)) node) ⌝ }
+    ensures buffers { λ _. ⌜ now (buffers .exit) ≡ sends (plan .block) (gainOf (nodeAt (now (floats .entry)) (now (words .entry)) node) 0) (now (w .entry)) 0 (named (now (indices .entry)) src) (named (now (indices .entry)) dst) (now (buffers .entry)) ⌝ }
+{
+    send_buffers(
+        plan,
+        indices,
+        w,
+        &floats[..],
+        &words[..],
+        buffers,
+        node,
+        src,
+        dst,
+    );
+    end_block(floats, words, node as usize, plan.block);
+}

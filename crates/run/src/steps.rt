@@ -1,0 +1,201 @@
+// The steps of a run, one after another.
+use crate::directory::lookup;
+use crate::nodes::run_gain;
+use crate::nodes::run_matrix;
+use crate::nodes::run_send;
+use crate::nodes::weights;
+use plan::Plan;
+use plan::Read;
+use plan::Span;
+use plan::Step;
+ghost use mathlib.Core.Path.{_≡_};
+ghost use mathlib.Core.Bool.{false};
+ghost use mathlib.Core.List.{List, [], map};
+ghost use Prim.Native.Nat.{ℕ, _+_, _*_, _<_, _≤_};
+ghost use lib.ListN.{length};
+ghost use lib.Ieee.{Float};
+ghost use Rattle.plan.specs.Words.{decoded};
+ghost use Rattle.plan.specs.Check.{named};
+ghost use Rattle.plan.specs.Sound.{Within, IndexList, Passes};
+ghost use Rattle.plan.specs.Resolved.{resolved};
+ghost use Rattle.mix.specs.Samples.{put};
+ghost use Rattle.mix.specs.Mix.{cleared, appended, Inside};
+ghost use Rattle.run.specs.Input.{lookup, patched};
+ghost use Rattle.run.specs.Run.{state, stepped, runSteps};
+ghost use Rattle.run.specs.Loops.{channels, channelsOf, isOutput, Fit, FitStep};
+
+// Patch: the first block samples of a channel's part, or +0 where it counts as absent. Requires that the buffer lies within the area.
+fn patch(buffers: &mut [f32], block: usize, dst: usize, part: &[f32])
+    requires { ⌜ Inside block dst (now buffers) ⌝ }
+    ensures { λ _. ⌜ now (buffers .exit) ≡ put block dst (patched block (now (part .entry))) (now (buffers .entry)) ⌝ }
+{
+    if part.len() < block {
+        mix::fill_buffer(buffers, block, dst);
+        return;
+    }
+    mix::copy_buffer(buffers, block, dst, part);
+}
+
+// Clear. Requires an index list that was tested, a span within it, and all buffers.
+fn run_clear(plan: Plan, indices: &[u32], buffers: &mut [f32], dst: Span)
+    requires { ⌜ IndexList plan (now indices) × Within (plan .indices) dst × (plan .buffers * plan .block ≤ length (now buffers)) ⌝ }
+    ensures { λ _. ⌜ now (buffers .exit) ≡ cleared (plan .block) (named (now (indices .entry)) dst) (now (buffers .entry)) ⌝ }
+{
+    mix::clear(buffers, plan.block, plan::numbers(indices, dst));
+}
+
+// Output, after `wrote` samples; the answer is how many are written then. Requires as `run_clear`, and room in the output.
+fn run_output(
+    plan: Plan,
+    indices: &[u32],
+    buffers: &[f32],
+    output: &mut [f32],
+    wrote: usize,
+    src: Span,
+) -> usize
+    requires { ⌜ IndexList plan (now indices) × Within (plan .indices) src × (plan .buffers * plan .block ≤ length (now buffers)) ⌝ }
+    requires { ⌜ wrote + src .len * plan .block ≤ length (now output) ⌝ }
+    ensures wrote { λ r. ⌜ r ≡ wrote + length (named (now (indices .entry)) src) * plan .block ⌝ }
+    ensures output { λ _. ⌜ now (output .exit) ≡ appended (plan .block) (now (buffers .entry)) (named (now (indices .entry)) src) wrote (now (output .entry)) ⌝ }
+{
+    let from = plan::numbers(indices, src);
+    mix::append(buffers, plan.block, from, output, wrote);
+    wrote + from.len() * plan.block
+}
+
+// Patch. Requires a buffer of the plan, and all buffers.
+fn run_patch(
+    plan: Plan,
+    buffers: &mut [f32],
+    directory: &[u32],
+    samples: &[f32],
+    input: u32,
+    channel: u32,
+    dst: u32,
+)
+    requires { ⌜ (dst < plan .buffers) × (plan .buffers * plan .block ≤ length (now buffers)) ⌝ }
+    ensures { λ _. ⌜ now (buffers .exit) ≡ put (plan .block) dst (patched (plan .block) (lookup (now (directory .entry)) (now (samples .entry)) input channel)) (now (buffers .entry)) ⌝ }
+{
+    let part = lookup(directory, samples, input, channel);
+    patch(buffers, plan.block, dst as usize, part);
+}
+
+// A step that is no Output. Requires what the tests said of the plan and of it.
+fn run_inside(
+    plan: Plan,
+    indices: &[u32],
+    coefficients: &[f32],
+    floats: &mut [f32],
+    words: &mut [u32],
+    buffers: &mut [f32],
+    directory: &[u32],
+    samples: &[f32],
+    step: Step,
+)
+    requires { ⌜ FitStep plan (now indices) (now coefficients) (state (now floats) (now words) (now buffers) [] 0) step × (isOutput step ≡ false) ⌝ }
+    ensures { λ _. ⌜ ((out : List Float) (wrote : ℕ) → state (now (floats .exit)) (now (words .exit)) (now (buffers .exit)) out wrote
+        ≡ stepped (plan .block) (lookup (now (directory .entry)) (now (samples .entry))) (resolved (now (indices .entry)) (now (coefficients .entry)) step) (state (now (floats .entry)) (now (words .entry)) (now (buffers .entry)) out wrote)) ⌝ }
+{
+    match step {
+        Step::Patch {
+            input,
+            channel,
+            dst,
+        } => run_patch(plan, buffers, directory, samples, input, channel, dst),
+        Step::Gain { node, src, dst } => {
+            run_gain(plan, indices, floats, words, buffers, node, src, dst)
+        }
+        Step::Matrix { node, src, dst } => {
+            run_matrix(plan, indices, floats, words, buffers, node, src, dst)
+        }
+        Step::Clear { dst } => run_clear(plan, indices, buffers, dst),
+        Step::Send {
+            node,
+            src,
+            dst,
+            coefficients: span,
+        } => {
+            let w = weights(coefficients, span);
+            run_send(plan, indices, w, floats, words, buffers, node, src, dst)
+        }
+        Step::Output { src: _, slot: _ } => {}
+    }
+}
+
+// A step, after `wrote` samples of output; the answer is how many are written then. Requires what the tests said of the plan and of it.
+fn run_step(
+    plan: Plan,
+    indices: &[u32],
+    coefficients: &[f32],
+    floats: &mut [f32],
+    words: &mut [u32],
+    buffers: &mut [f32],
+    directory: &[u32],
+    samples: &[f32],
+    output: &mut [f32],
+    wrote: usize,
+    step: Step,
+) -> usize
+    requires { ⌜ FitStep plan (now indices) (now coefficients) (state (now floats) (now words) (now buffers) (now output) wrote) step × (wrote + channels step * plan .block ≤ length (now output)) ⌝ }
+    ensures { λ r. ⌜ state (now (floats .exit)) (now (words .exit)) (now (buffers .exit)) (now (output .exit)) r
+        ≡ stepped (plan .block) (lookup (now (directory .entry)) (now (samples .entry))) (resolved (now (indices .entry)) (now (coefficients .entry)) step) (state (now (floats .entry)) (now (words .entry)) (now (buffers .entry)) (now (output .entry)) wrote) ⌝ }
+{
+    if let Step::Output { src, slot: _ } = step {
+        return run_output(plan, indices, &buffers[..], output, wrote, src);
+    }
+    run_inside(
+        plan,
+        indices,
+        coefficients,
+        floats,
+        words,
+        buffers,
+        directory,
+        samples,
+        step,
+    );
+    wrote
+}
+
+// The steps of the step words, in order; the answer is how many samples were written. Requires what the tests said of the plan and its steps.
+pub fn run_steps(
+    plan: Plan,
+    indices: &[u32],
+    coefficients: &[f32],
+    floats: &mut [f32],
+    words: &mut [u32],
+    steps: &[u32],
+    buffers: &mut [f32],
+    directory: &[u32],
+    samples: &[f32],
+    output: &mut [f32],
+) -> usize
+    requires { ⌜ Fit plan (now indices) (now coefficients) (state (now floats) (now words) (now buffers) (now output) 0) × Passes plan (now indices) (now steps) (plan .steps) 0 ⌝ }
+    requires { ⌜ channelsOf (decoded (now steps) (plan .steps)) * plan .block ≤ length (now output) ⌝ }
+    ensures { λ r. ⌜ state (now (floats .exit)) (now (words .exit)) (now (buffers .exit)) (now (output .exit)) r
+        ≡ runSteps (plan .block) (lookup (now (directory .entry)) (now (samples .entry))) (map (resolved (now (indices .entry)) (now (coefficients .entry))) (decoded (now (steps .entry)) (plan .steps))) (state (now (floats .entry)) (now (words .entry)) (now (buffers .entry)) (now (output .entry)) 0) ⌝ }
+{
+    let n = plan.steps;
+    let mut wrote = 0;
+    let mut at = 0;
+    for i in 0..n {
+        let Read::Found(step, next) = plan::read_step(steps, at) else {
+            return wrote;
+        };
+        wrote = run_step(
+            plan,
+            indices,
+            coefficients,
+            floats,
+            words,
+            buffers,
+            directory,
+            samples,
+            output,
+            wrote,
+            step,
+        );
+        at = next;
+    }
+    wrote
+}
