@@ -12,6 +12,8 @@ pub mod Counting
 pub mod Fits
 -- which steps write samples, and how many
 pub mod Outputs
+-- the end of a block of a node at rest
+pub mod Rest
 -- what holds between two steps
 pub mod Going
 -- what a run answers and leaves, by its admission

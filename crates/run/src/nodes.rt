@@ -34,12 +34,16 @@ pub fn weights(coefficients: &[f32], span: Span) -> &[f32]
     &coefficients[start..end]
 }
 
-// The end of a step's block of node n. Requires areas that reach past it, a len of at most MAX, and a block no longer than the longest ramp.
+// The end of a step's block of node n; one at rest stays as it is. Requires areas that reach past it, a len of at most MAX, and a block no
+// longer than the longest ramp.
 fn end_block(floats: &mut [f32], words: &mut [u32], n: usize, block: usize)
     requires { ⌜ Room (n + 1) (now floats) (now words) × (lenAt (now words) n ≤ maxValues) × (block ≤ maxRamp) ⌝ }
     ensures floats { λ _. ⌜ now (floats .exit) ≡ storedFloats (now (floats .entry)) n (ended block (now (floats .entry)) (now (words .entry)) n) ⌝ }
     ensures words { λ _. ⌜ now (words .exit) ≡ storedWords (now (words .entry)) n (ended block (now (floats .entry)) (now (words .entry)) n) ⌝ }
 {
+    if words[n * Node::WORDS + 2] == 0 {
+        return;
+    }
     let node = node::load(&floats[..], &words[..], n);
     node::store(node.finish_block(block), floats, words, n);
 }
