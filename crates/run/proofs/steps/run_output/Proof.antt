@@ -23,7 +23,7 @@ numbers-requires : tie.Need-numbers-requires
 numbers-requires c κs = search needs
 
 append-requires : tie.Need-append-requires
-append-requires c κs = let s = c .before .before .before .before .before in (span-inside (s .args .plan) (s .args .indices .now) (s .args .buffers .now) (s .pre .0 .0) (s .pre .0 .2) (s .args .src) (s .pre .0 .1) (c .before .numbers .ensures), room (c .before))
+append-requires c κs = let s = c .before .before .before .before .before in (span-inside (s .args .plan) (s .args .indices .now) (s .args .buffers .now) (s .pre .0 .0) (s .pre .0 .2) (s .args .src) (s .pre .0 .1) (c .before .numbers .ensures), omega (arith, room (c .before)))
 
 mul-result : tie.Need-mul-result
 mul-result c = omega (arith, room (c .before .before .before .before .before))
