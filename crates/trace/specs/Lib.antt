@@ -1,0 +1,4 @@
+-- What the crate's contracts cite: the source sets, the clean plan, and the calls.
+pub mod Sources
+pub mod Clean
+pub mod Calls
