@@ -1,0 +1,56 @@
+-- A build: `new`, a list of builder calls, and `finish`, in lent areas of any content and length. Definitions only.
+use Prim.Native.Nat.{ℕ}
+use mathlib.Core.Path.{_≡_}
+use mathlib.Core.List.{List, [], _∷_}
+use lib.ListN.{length}
+use lib.Ieee.{Float}
+use Rattle.refusal.specs.declared.Answer.the-variants.{Accepted}
+use Rattle.plan.specs.Limits.{unitLimits}
+use Rattle.plan.specs.Areas.{Areas}
+use Rattle.builder.specs.Calls.{newAnswer, emptyPlan, finishAnswer, finishArea}
+use Rattle.builder.specs.Built.{Call, buffers, coefficients, node, step, State, built, accepted}
+use Rattle.run.specs.Calls.{Fixed, Held}
+
+pub record Build : Type 0 where
+  pub block : ℕ
+  pub lent : Areas
+  pub calls : List Call
+
+-- the plan and the areas after `new`, and after the calls, of which a refused one changes nothing
+abbrev pub begun : Build → State
+begun b =
+    record {
+      plan = emptyPlan (b .block);
+      indices = b .lent .indices;
+      coefficients = b .lent .coefficients;
+      floats = b .lent .floats;
+      words = b .lent .words;
+      steps = b .lent .steps;
+    }
+
+abbrev pub grown : Build → State
+grown b = built unitLimits (begun b) (b .calls)
+
+-- the calls that were accepted, in order
+abbrev pub acceptedCalls : Build → List Call
+acceptedCalls b = accepted unitLimits (begun b) (b .calls)
+
+-- `new` and `finish` are accepted
+pub record Finished (b : Build) : Type 0 where
+  pub new : newAnswer (b .block) ≡ Accepted
+  pub finish : finishAnswer unitLimits (grown b .plan) (length (b .lent .buffers)) ≡ Accepted
+
+-- "each list starts at the plan that `finish` left": its record and the areas that no later call writes, and those that later calls write
+abbrev pub fixed : Build → Fixed
+fixed b = record { plan = grown b .plan; indices = grown b .indices; coefficients = grown b .coefficients; steps = grown b .steps }
+
+abbrev pub held : Build → Held
+held b = record { floats = grown b .floats; words = grown b .words; buffers = finishArea unitLimits (grown b .plan) (b .lent .buffers) }
+
+-- every ramp given to the builder is 0
+abbrev pub NoRampBuilt : List Call → Type 0
+NoRampBuilt [] = Unit {0}
+NoRampBuilt (buffers n ∷ cs) = NoRampBuilt cs
+NoRampBuilt (coefficients xs ∷ cs) = NoRampBuilt cs
+NoRampBuilt (node id values ramp ∷ cs) = (ramp ≡ 0) × NoRampBuilt cs
+NoRampBuilt (step words ∷ cs) = NoRampBuilt cs

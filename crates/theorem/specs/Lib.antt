@@ -1,0 +1,4 @@
+-- The statement of the two-list theorem: builds, lists of calls and their journals, and demand 3 clause by clause.
+pub mod Builds
+pub mod Journal
+pub mod Statement
