@@ -1,4 +1,5 @@
--- The statement of the two-list theorem: builds, lists of calls and their journals, and demand 3 clause by clause.
+-- The statement of the two-list theorem: builds, lists of calls and their journals, and demand 3 clause by clause; and what follows for the recorder.
 pub mod Builds
 pub mod Journal
 pub mod Statement
+pub mod Recorder

@@ -7,7 +7,7 @@ use mathlib.Core.Bool.{true}
 use mathlib.Core.List.{List, _∷_, _++_}
 use lib.ListN.{length}
 use Rattle.plan.specs.Check.{has}
-use Rattle.plan.specs.Resolved.{Resolved, output, resolvedSteps}
+use Rattle.plan.specs.Resolved.{Resolved, output}
 use Rattle.trace.specs.Sources.{sourceList}
 use Rattle.trace.specs.Calls.{tracedSteps, cleanAnswer}
 use Rattle.trace.specs.declared.CleanAnswer.the-variants.{Clean}
@@ -15,6 +15,17 @@ use Rattle.run.specs.Run.{outputChannels}
 use Rattle.run.specs.Calls.{Call, stepsOfPlan}
 use Rattle.theorem.specs.Builds.{Build, Finished, acceptedCalls, fixed, held, NoRampBuilt}
 use Rattle.theorem.specs.Journal.{Entry, journal, total, settingsFrom, written, Absent, Whole, carried, NoRampSet}
+
+-- "A channel of s is one place in the src span of one Output to slot s": channel c of it. Its block lies at place q of the output area, after the
+-- blocks of the Outputs before it.
+pub record Channel (steps : List Resolved) (s q : ℕ) : Type 0 where
+  pub before : List Resolved
+  pub src : List ℕ
+  pub after : List Resolved
+  pub split : steps ≡ before ++ output src s ∷ after
+  pub c : ℕ
+  pub inside : c < length src
+  pub place : q ≡ outputChannels before + c
 
 -- "Let a clean plan (01) be built twice …, for blocks of a and of b samples. Take any list of settings and runs after the first build and any
 -- after the second, refused ones included"
@@ -70,15 +81,8 @@ module _ (l : Lists) where
 
   -- ---- what is claimed
 
-  -- "A channel of s is one place in the src span of one Output to slot s": channel c of it, and where its block lies in the output area
-  pub record ChannelOf (s q : ℕ) : Type 0 where
-    pub before : List Resolved
-    pub src : List ℕ
-    pub after : List Resolved
-    pub steps : stepsOfPlan (fixed (l .first)) ≡ before ++ output src s ∷ after
-    pub c : ℕ
-    pub inside : c < length src
-    pub place : q ≡ outputChannels before + c
+  abbrev pub ChannelOf : ℕ → ℕ → Type 0
+  ChannelOf s q = Channel (stepsOfPlan (fixed (l .first))) s q
 
   -- "both write the same T samples to every channel of s"
   abbrev pub SameOutput : ℕ → Type 0

@@ -1,0 +1,29 @@
+-- The two-list theorem: `two-lists` in TwoLists, and what follows for the recorder, `changes-listed` in Recorder. The others are its parts, in
+-- the order in which each uses those before it.
+
+-- tests joined by and, or
+pub mod Bools
+-- two areas of buffers, sample beside sample
+pub mod Agree
+-- one step of two runs
+pub mod Steps
+-- one block of two runs
+pub mod Block
+-- the nodes of a plan after settings and runs
+pub mod Nodes
+-- each sample of a journal
+pub mod Moments
+-- alike settings
+pub mod Settings
+-- the accepted runs of a list
+pub mod Runs
+-- two lists of two plans that are the same
+pub mod Pairs
+-- two builds of the same calls
+pub mod Drafts
+-- what the clean answer says
+pub mod CleanPlans
+-- demand 3
+pub mod TwoLists
+-- the recorder's corollary
+pub mod Recorder
