@@ -21,6 +21,8 @@ pub mod Runs
 pub mod Pairs
 -- two builds of the same calls
 pub mod Drafts
+-- what the check, the clean answer and the trace say of both
+pub mod Answers
 -- what the clean answer says
 pub mod CleanPlans
 -- demand 3
