@@ -1,6 +1,6 @@
 -- Laws that belong to no one function, for the crates above too.
 
--- a disjunction that is false
+-- a disjunction that is false, and a test of equality the other way round
 pub mod Bools
 -- tests of one entry after another
 pub mod Scans

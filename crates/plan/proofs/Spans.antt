@@ -8,10 +8,11 @@ use native.Mathlib.Omega.{arith}
 use lib.ListN.{length, getD, take, drop, length-take, length-drop}
 use lib.Seq.{getD-take, getD-drop}
 use Rattle.lists.proofs.Stores.{length-part, part-take}
+use Rattle.plan.specs.declared.Plan.{Plan}
 use Rattle.plan.specs.declared.Span.{Span}
 use Rattle.plan.specs.Check.{someFrom, named, used, firstOf}
-use Rattle.plan.specs.Sound.{Within}
-use Rattle.plan.proofs.Plans.{some-none, entries-none}
+use Rattle.plan.specs.Sound.{Within, IndexList}
+use Rattle.plan.proofs.Plans.{some-none, some-more, entries-none}
 
 module _ (indices : List ℕ) (s : Span) where
   pub length-named : Within (length indices) s → length (named indices s) ≡ s .len
@@ -30,6 +31,11 @@ module _ (indices : List ℕ) (s : Span) where
       each i l =
           let k : i < min (s .len) (length indices - s .start) = rw (length-take, length-drop) at l in
           rw (named-at i (omega arith)) (entries-none n count indices .0 e (s .start + i) (omega arith) (omega arith))
+
+-- below 256, of an index list that was tested
+pub named-low : (p : Plan) (indices : List ℕ) → IndexList p indices → (s : Span) → Within (p .indices) s → someFrom 256 (named indices s) ≡ false
+named-low p indices l s h =
+    some-more (p .buffers) 256 (named indices s) (l .few) (named-below indices s (p .buffers) (p .indices) (l .entries) h)
 
 -- the used channels of a Gain are the first of each span
 module _ (n : ℕ) (s d : Span) where

@@ -1,17 +1,17 @@
 -- `plan::step_tests::set_of` meets its contract. At i a number is in the list where it is in the set or among the entries from i on.
 -- Assumes nothing.
-use mathlib.Core.Path.{_≡_, refl, sym, ap, _∙_}
-use mathlib.Core.Bool.{Bool, true, false, _||_, or-assoc, or-false}
+use mathlib.Core.Path.{_≡_, sym, ap, _∙_}
+use mathlib.Core.Bool.{Bool, _||_, or-assoc, or-false}
 use mathlib.Core.List.{List}
 use Prim.Native.Nat.{ℕ, _+_, _-_, _≤_, _<_}
 use native.Mathlib.Omega.{arith}
 use borrow.Author.Needs.{needs}
-use borrow.Author.Tests.{eqb-true, eqb-false, eq-eqb, ne-eqb}
 use lib.Dec.{eqb}
 use lib.ListN.{length, getD, drop}
 use Rattle.sets.specs.Sets.{member}
 use Rattle.sets.specs.declared.Set.{Set}
 use Rattle.plan.specs.Check.{has}
+use Rattle.plan.proofs.Bools.{eqb-swap}
 use Rattle.plan.proofs.Plans.{some-none}
 use Rattle.plan.proofs.Scans.{has-listed, listed-here, listed-end}
 use Rattle.plan.proofs.step_tests.set_of.Statement.{statement}
@@ -25,13 +25,6 @@ Inv-loop list set₀ i₀ set i = (i ≤ length list) × Whole list i set
 
 abbrev μ-loop : tie.MeasureT-loop
 μ-loop list set₀ i₀ set i = length list - i
-
-eqb-swap : (a b : ℕ) → eqb a b ≡ eqb b a
-eqb-swap a b = go (eqb a b) refl
-  where
-    go : (t : Bool) → eqb a b ≡ t → t ≡ eqb b a
-    go true e = sym (eq-eqb b a (sym (eqb-true a b e)))
-    go false e = sym (ne-eqb b a (λ q. eqb-false a b e (sym q)))
 
 one-more : (list : List ℕ) (i : ℕ) (s t : Set) → i < length list → ((j : ℕ) → member t j ≡ (member s j || eqb j (getD list i 0))) → Whole list i s
     → Whole list (i + 1) t

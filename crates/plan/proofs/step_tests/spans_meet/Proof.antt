@@ -1,9 +1,8 @@
 -- `plan::step_tests::spans_meet` meets its contract: the entries of dst are buffers, and so below 256. Assumes nothing.
 use mathlib.Core.Path.{ap, _∙_}
 use borrow.Author.Needs.{needs}
-use Rattle.plan.specs.Check.{someFrom, named}
-use Rattle.plan.proofs.Plans.{some-more}
-use Rattle.plan.proofs.Spans.{named-below}
+use Rattle.plan.specs.Check.{someFrom}
+use Rattle.plan.proofs.Spans.{named-low}
 use Rattle.plan.proofs.step_tests.spans_meet.Statement.{statement}
 use Rattle.plan.proofs.step_tests.spans_meet.Tie as tie
 
@@ -17,10 +16,7 @@ lists-meet-requires : tie.Need-lists-meet-requires
 lists-meet-requires c κs =
     let s = c .before .before .before in
     let a = s .args in
-    let l = s .pre .0 in
-    ap (someFrom 256) (c .numbers2 .ensures)
-    ∙ some-more (a .plan .buffers) 256 (named (a .indices .now) (a .dst)) (l .few)
-    (named-below (a .indices .now) (a .dst) (a .plan .buffers) (a .plan .indices) (l .entries) (s .pre .2))
+    ap (someFrom 256) (c .numbers2 .ensures) ∙ named-low (a .plan) (a .indices .now) (s .pre .0) (a .dst) (s .pre .2)
 
 returns : tie.Need-returns
 returns c = rw (c .lists-meet .ensures, c .before .numbers2 .ensures, c .before .before .numbers .ensures)
