@@ -2,3 +2,5 @@
 pub mod Sources
 pub mod Clean
 pub mod Calls
+-- for the private functions
+pub mod Loops
