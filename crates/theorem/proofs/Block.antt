@@ -65,6 +65,9 @@ module _ (block : ℕ) (input : ℕ → ℕ → List Float) where
       ∙ ap (λ (i : ℕ). getD (t .output) i nan) place
       ∙ appended-at block (s .buffers) src (s .wrote) (s .output) c k h l (omega (arith, add-mul q (length src) block))
 
+fewer : (q u v block len : ℕ) → (q + (u + v)) * block ≤ len → (q + u) * block ≤ len
+fewer q u v block len h = omega (arith, add-mul q u block, add-mul q (u + v) block, add-mul u v block)
+
 -- one list of inputs is within another
 abbrev pub Within : (ℕ → Bool) → (ℕ → Bool) → Type 0
 Within A L = (i : ℕ) → A i ≡ true → L i ≡ true
@@ -215,8 +218,8 @@ module _ (count m b₁ k₁ b₂ k₂ : ℕ) (h₁ : k₁ < b₁) (h₂ : k₂ <
         ≡ sample b₂ (runSteps b₂ input₂ (before ++ output src s ∷ after) s₂ .output) (q + (outputChannels before + c)) k₂
     unfolding runSteps outputChannels
     same-sample [] sources w q s₁ s₂ g =
-        let r₁ : (q + length src) * b₁ ≤ length (s₁ .output) = omega (arith, g .room₁, add-mul q (length src) b₁, add-mul q (length src + outputChannels after) b₁, add-mul (length src) (outputChannels after) b₁) in
-        let r₂ : (q + length src) * b₂ ≤ length (s₂ .output) = omega (arith, g .room₂, add-mul q (length src) b₂, add-mul q (length src + outputChannels after) b₂, add-mul (length src) (outputChannels after) b₂) in
+        let r₁ = fewer q (length src) (outputChannels after) b₁ (length (s₁ .output)) (g .room₁) in
+        let r₂ = fewer q (length src) (outputChannels after) b₂ (length (s₂ .output)) (g .room₂) in
         let z : 0 + c ≡ c = zero-add c in
         rw z
         (output-sample b₁ input₁ src s after s₁ q c k₁ (g .wrote₁) inside h₁ r₁
@@ -224,6 +227,8 @@ module _ (count m b₁ k₁ b₂ k₂ : ℕ) (h₁ : k₁ < b₁) (h₂ : k₂ <
         ∙ sym (output-sample b₂ input₂ src s after s₂ q c k₂ (g .wrote₂) inside h₂ r₂))
     same-sample (x ∷ before) sources w q s₁ s₂ g =
         let n : q + width x + (outputChannels before + c) ≡ q + (outputChannels (x ∷ before) + c) = rw (channels-more x before) (omega arith) in
-        subst (λ (p : ℕ). sample b₁ (runSteps b₁ input₁ (before ++ output src s ∷ after) (stepped b₁ input₁ x s₁) .output) p k₁ ≡ sample b₂ (runSteps b₂ input₂ (before ++ output src s ∷ after) (stepped b₂ input₂ x s₂) .output) p k₂) n
+        let out₁ = runSteps b₁ input₁ (before ++ output src s ∷ after) (stepped b₁ input₁ x s₁) .output in
+        let out₂ = runSteps b₂ input₂ (before ++ output src s ∷ after) (stepped b₂ input₂ x s₂) .output in
+        subst (λ (p : ℕ). sample b₁ out₁ p k₁ ≡ sample b₂ out₂ p k₂) n
         (same-sample before (spread sources x) (written w x) (q + width x) (stepped b₁ input₁ x s₁) (stepped b₂ input₂ x s₂)
         (going-on sources w x (before ++ output src s ∷ after) q s₁ s₂ g))
