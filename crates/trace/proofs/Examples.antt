@@ -1,0 +1,70 @@
+-- Document 01's case 8, and a plan with a fault of its own, over the step words and by computation alone. Assumes nothing.
+use mathlib.Core.Path.{_≡_, refl, _∙_}
+use mathlib.Core.List.{List, [], _∷_}
+use Prim.Native.Nat.{ℕ}
+use lib.Count.{ones, onesIn}
+use lib.Ieee.{Float}
+use Rattle.refusal.specs.Tests.{refusal}
+use Rattle.sets.specs.Sets.{sift}
+use Rattle.plan.specs.declared.Plan.{Plan}
+use Rattle.plan.specs.Words.{patchMap, clearMap, sendMap, outputMap, stepOf, readAt, decodedFrom, decoded}
+use Rattle.plan.specs.Check.{someFrom, idAmong, idTwice, outside, tooWide, has, meet, shares, stepsTests}
+use Rattle.plan.specs.Resolved.{resolvedSteps}
+use Rattle.trace.specs.Sources.{union, spread, joins, behind, sourceList, slotCount}
+use Rattle.trace.specs.Calls.{tracedSteps, traceAnswer, sourcesAnswer, sourcesArea}
+use Rattle.trace.specs.declared.Sources.{Sources}
+use Rattle.trace.specs.declared.Sources.the-variants.{Listed, Refused}
+use Rattle.trace.proofs.Behind.{traced-coefficients}
+
+-- Patch of an input to buffer 0, Clear 1, Send 0 to 1, Output 1 to slot 2. The index list is the two buffers, and the Send has one weight.
+abbrev plan : Plan
+plan = record { block = 1; buffers = 2; indices = 2; coefficients = 1; nodes = 1; steps = 4; words = 19 }
+
+abbrev indices : List ℕ
+indices = 0 ∷ 1 ∷ []
+
+abbrev steps : ℕ → List ℕ
+steps input =
+    patchMap ∷ input ∷ 0 ∷ 0
+    ∷ clearMap ∷ 1 ∷ 1
+    ∷ sendMap ∷ 0 ∷ 0 ∷ 1 ∷ 1 ∷ 1 ∷ 0 ∷ 1
+    ∷ outputMap ∷ 1 ∷ 1 ∷ 2
+    ∷ []
+
+-- with a list's area of one place, which holds 9
+abbrev answered : ℕ → ℕ → Sources
+answered input slot = sourcesAnswer plan slot indices (7 ∷ 1 ∷ 0 ∷ []) (steps input) 1
+
+abbrev left : ℕ → ℕ → List ℕ
+left input slot = sourcesArea plan slot indices (7 ∷ 1 ∷ 0 ∷ []) (steps input) (9 ∷ [])
+
+-- the lists: empty, empty, [3]
+pub case-8-slot-0 : (answered 3 0 ≡ Listed 0) × (left 3 0 ≡ 9 ∷ [])
+unfolding sourcesAnswer sourcesArea traceAnswer someFrom idAmong idTwice stepsTests readAt stepOf ones onesIn outside tooWide has meet shares decoded decodedFrom sift union spread joins behind sourceList slotCount
+case-8-slot-0 = (refl, refl)
+
+pub case-8-slot-1 : (answered 3 1 ≡ Listed 0) × (left 3 1 ≡ 9 ∷ [])
+unfolding sourcesAnswer sourcesArea traceAnswer someFrom idAmong idTwice stepsTests readAt stepOf ones onesIn outside tooWide has meet shares decoded decodedFrom sift union spread joins behind sourceList slotCount
+case-8-slot-1 = (refl, refl)
+
+pub case-8-slot-2 : (answered 3 2 ≡ Listed 1) × (left 3 2 ≡ 3 ∷ [])
+unfolding sourcesAnswer sourcesArea traceAnswer someFrom idAmong idTwice stepsTests readAt stepOf ones onesIn outside tooWide has meet shares decoded decodedFrom sift union spread joins behind sourceList slotCount
+case-8-slot-2 = (refl, refl)
+
+-- slot 3 is refused 15
+pub case-8-slot-3 : (answered 3 3 ≡ Refused (refusal 15 0)) × (left 3 3 ≡ 9 ∷ [])
+unfolding sourcesAnswer sourcesArea traceAnswer someFrom idAmong idTwice stepsTests readAt stepOf ones onesIn outside tooWide has meet shares decoded decodedFrom sift union spread joins behind sourceList slotCount
+case-8-slot-3 = (refl, refl)
+
+-- the input is listed whatever the weight is, and so where it is 0
+list-2 : sourceList 2 (tracedSteps plan indices (steps 3)) ≡ 3 ∷ []
+unfolding readAt stepOf ones onesIn has decoded decodedFrom sift union spread joins behind sourceList
+list-2 = refl
+
+pub case-8-weight : (weight : Float) → sourceList 2 (resolvedSteps plan indices (weight ∷ []) (steps 3)) ≡ 3 ∷ []
+case-8-weight weight = traced-coefficients plan indices (weight ∷ []) (steps 3) 2 ∙ list-2
+
+-- a plan with a fault of its own, an input of 256 in its first step, answers that, and not 15
+pub fault-before-15 : answered 256 3 ≡ Refused (refusal 4 1)
+unfolding sourcesAnswer traceAnswer someFrom idAmong idTwice stepsTests readAt stepOf ones onesIn outside slotCount
+fault-before-15 = refl
