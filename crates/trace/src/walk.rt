@@ -64,8 +64,8 @@ fn send(plan: Plan, indices: &[u32], area: &mut [u64], src: Span, dst: Span)
     requires { ⌜ Spans plan (now indices) (now area) src dst ⌝ }
     ensures { λ _. ⌜ sourcesOf (now (area .exit)) ≡ changed (λ i own. own || union (sourcesOf (now (area .entry))) (named (now (indices .entry)) src) i) (sourcesOf (now (area .entry))) (named (now (indices .entry)) dst) ⌝ }
 {
-    let set = behind_span(plan, indices, &area[..], src);
-    add(area, plan::numbers(indices, dst), set);
+    let more = behind_span(plan, indices, &area[..], src);
+    add(area, plan::numbers(indices, dst), more);
 }
 
 // The sets after a step. Requires what the tests said of the plan and of it, and the words of all buffers.
