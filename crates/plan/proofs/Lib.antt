@@ -1,6 +1,6 @@
 -- Laws that belong to no one function, for the crates above too.
 
--- a disjunction that is false, and a test of equality the other way round
+-- a disjunction that is false or true, a conjunction that is true, and a test of equality the other way round
 pub mod Bools
 -- tests of one entry after another
 pub mod Scans
@@ -10,10 +10,10 @@ pub mod Words
 pub mod Places
 -- the tests of a plan as a whole in plain terms
 pub mod Plans
--- the buffers that a span names
-pub mod Spans
 -- the tests of a step in plain terms
 pub mod Steps
+-- the buffers that a span names
+pub mod Spans
 -- one law for each way out of the check
 pub mod Answers
 -- the steps one by one and as a list

@@ -1,18 +1,24 @@
--- The buffers that a span names: how many, which entries of the index list, below the buffers where the entries are, and from its front
--- alone. Assumes nothing.
-use mathlib.Core.Path.{_≡_, _∙_}
-use mathlib.Core.Bool.{false}
+-- The buffers that a span names: how many, which entries of the index list, below the buffers where the entries are, from its front alone,
+-- and none that another span names where the list ascends. Assumes nothing.
+use mathlib.Core.Path.{_≡_, sym, _∙_}
+use mathlib.Core.Bool.{true, false, _||_}
 use mathlib.Core.List.{List}
-use Prim.Native.Nat.{ℕ, _+_, _-_, _<_, min}
+use mathlib.Core.Logic.{⊎-elim}
+use Prim.Native.Nat.{ℕ, _+_, _-_, _<_, _≤_, min}
+use native.Mathlib.Nat.{mul-one, ne-of-lt}
 use native.Mathlib.Omega.{arith}
 use lib.ListN.{length, getD, take, drop, length-take, length-drop}
 use lib.Seq.{getD-take, getD-drop}
+use borrow.Author.Tests.{leb-true}
 use Rattle.lists.proofs.Stores.{length-part, part-take}
 use Rattle.plan.specs.declared.Plan.{Plan}
 use Rattle.plan.specs.declared.Span.{Span}
-use Rattle.plan.specs.Check.{someFrom, named, used, firstOf}
-use Rattle.plan.specs.Sound.{Within, IndexList}
+use Rattle.plan.specs.Check.{someFrom, named, used, firstOf, meet}
+use Rattle.plan.specs.Sound.{Within, Disjoint, IndexList}
+use Rattle.plan.specs.Loops.{Ascending, spanBefore}
+use Rattle.plan.proofs.Bools.{or-some}
 use Rattle.plan.proofs.Plans.{some-none, some-more, entries-none}
+use Rattle.plan.proofs.Steps.{meet-none}
 
 module _ (indices : List ℕ) (s : Span) where
   pub length-named : Within (length indices) s → length (named indices s) ≡ s .len
@@ -44,3 +50,27 @@ module _ (n : ℕ) (s d : Span) where
 
   pub used-dst : Within n d → Within n (firstOf (used s d) d)
   used-dst h = omega arith
+
+-- in an index list that ascends, spans of which one ends before the other starts name no buffer both
+module _ (indices : List ℕ) (count : ℕ) (up : Ascending 1 count indices) where
+  named-above : (s d : Span) → s .start + s .len ≤ d .start → Within count d → (i j : ℕ) → i < s .len → j < d .len → getD (named indices s) i 0 < getD (named indices d) j 0
+  named-above s d e w i j h k =
+      let u = up (s .start + i) (d .start + j) (omega arith) (omega arith) in
+      rw (named-at indices s i h, named-at indices d j k) (rw (mul-one (s .start + i), mul-one (d .start + j)) at u)
+
+  within-len : (s : Span) (i : ℕ) → i < length (named indices s) → i < s .len
+  within-len s i l =
+      let k : i < min (s .len) (length indices - s .start) = rw (length-take, length-drop) at l in
+      omega arith
+
+  pub apart-none : (s d : Span) → Within count s → Within count d → (spanBefore s d || spanBefore d s) ≡ true → meet (named indices s) (named indices d) ≡ false
+  apart-none s d ws wd e = meet-none (named indices s) (named indices d) .1 differ
+    where
+      differ : Disjoint (named indices s) (named indices d)
+      differ i j h k q =
+          let h' = within-len s i h in
+          let k' = within-len d j k in
+          ⊎-elim
+          (λ b. ne-of-lt (named-above s d (leb-true _ _ b) wd i j h' k') q)
+          (λ b. ne-of-lt (named-above d s (leb-true _ _ b) ws j i k' h') (sym q))
+          (or-some (spanBefore s d) (spanBefore d s) e)

@@ -1,5 +1,5 @@
 -- What the crate's contracts cite: the limits, the step words, the lent areas, and the plan check. `Sound` says what a plan is that the check accepts;
--- `Resolved` is a step with the buffers and weights that it names.
+-- `Resolved` is a step with the buffers and weights that it names; `Loops` has what the check's loops go by.
 pub mod Limits
 pub mod Words
 pub mod Records
@@ -7,3 +7,4 @@ pub mod Areas
 pub mod Check
 pub mod Sound
 pub mod Resolved
+pub mod Loops

@@ -2,7 +2,7 @@
 use refusal::Answer;
 use refusal::Refusal;
 ghost use mathlib.Core.Path.{_≡_};
-ghost use mathlib.Core.Bool.{false};
+ghost use mathlib.Core.Bool.{true, false};
 ghost use mathlib.Core.List.{[]};
 ghost use Prim.Native.Nat.{_≤_};
 ghost use Rattle.refusal.specs.Tests.{first};
@@ -10,6 +10,7 @@ ghost use Rattle.plan.specs.Limits.{unitLimits};
 ghost use Rattle.plan.specs.Areas.{areas, shortLists};
 ghost use Rattle.plan.specs.Check.{stepTests, stepsTests, checked, checkPlan};
 ghost use Rattle.plan.specs.Sound.{IndexList};
+ghost use Rattle.plan.specs.Loops.{Ascending};
 
 mod plan_tests;
 mod reader;
@@ -116,9 +117,9 @@ impl Step {
     pub const OUTPUT_MAP: u32 = 1072;
 }
 
-// One step that was read, at its place from 1. Requires an index list that was tested.
-fn check_step(plan: Plan, indices: &[u32], step: Step, place: u32) -> Answer
-    requires { ⌜ IndexList plan (now indices) ⌝ }
+// One step that was read, at its place from 1. Requires an index list that was tested, and that ascends where it is said to.
+fn check_step(plan: Plan, indices: &[u32], ascending: bool, step: Step, place: u32) -> Answer
+    requires { ⌜ IndexList plan (now indices) × (ascending ≡ true → Ascending 1 (plan .indices) (now indices)) ⌝ }
     ensures { λ r. ⌜ r ≡ first (stepTests plan (now (indices .entry)) place (Read.Found step 0) (λ _. [])) Answer.Accepted ⌝ }
 {
     if step_tests::step_outside(plan, step) {
@@ -127,15 +128,16 @@ fn check_step(plan: Plan, indices: &[u32], step: Step, place: u32) -> Answer
     if step_wide(step) {
         return Answer::Refused(Refusal::at(Refusal::TOO_MANY_VALUES, place));
     }
-    if step_tests::step_shares(plan, indices, step) {
+    if step_tests::step_shares(plan, indices, ascending, step) {
         return Answer::Refused(Refusal::at(Refusal::SHARED_BUFFER, place));
     }
     Answer::Accepted
 }
 
-// The steps of the step words, each in turn. Requires an index list that was tested, and steps within their limit.
-fn check_steps(plan: Plan, indices: &[u32], words: &[u32]) -> Answer
-    requires { ⌜ IndexList plan (now indices) × (plan .steps ≤ unitLimits .steps) ⌝ }
+// The steps of the step words, each in turn. Requires an index list that was tested, and that ascends where it is said to, and steps within
+// their limit.
+fn check_steps(plan: Plan, indices: &[u32], ascending: bool, words: &[u32]) -> Answer
+    requires { ⌜ IndexList plan (now indices) × (plan .steps ≤ unitLimits .steps) × (ascending ≡ true → Ascending 1 (plan .indices) (now indices)) ⌝ }
     ensures { λ r. ⌜ r ≡ first (stepsTests plan (now (indices .entry)) (now (words .entry)) (plan .steps) 0 1) Answer.Accepted ⌝ }
 {
     let n = plan.steps;
@@ -146,7 +148,7 @@ fn check_steps(plan: Plan, indices: &[u32], words: &[u32]) -> Answer
         let Read::Found(step, next) = read_step(words, at) else {
             return Answer::Refused(Refusal::at(Refusal::UNREADABLE_STEP, place));
         };
-        if let Answer::Refused(r) = check_step(plan, indices, step, place) {
+        if let Answer::Refused(r) = check_step(plan, indices, ascending, step, place) {
             return Answer::Refused(r);
         }
         at = next;
@@ -176,8 +178,9 @@ pub fn check(plan: Plan, short: bool, indices: &[u32], node_words: &[u32], steps
     if plan_tests::id_twice(node_words, plan.nodes) {
         return Answer::Refused(Refusal::of(Refusal::ID_TAKEN));
     }
+    let ascending = plan_tests::ascend(indices, entries, 1);
     let words = plan.words;
-    check_steps(plan, indices, &steps[..words])
+    check_steps(plan, indices, ascending, &steps[..words])
 }
 
 // The plan check as a call of its own.

@@ -3,13 +3,13 @@ use crate::Plan;
 use node::Node;
 ghost use mathlib.Core.Path.{_≡_};
 ghost use mathlib.Core.Bool.{true, false};
-ghost use Prim.Native.Nat.{ℕ, _*_, _<_, _≤_};
+ghost use Prim.Native.Nat.{_*_, _<_, _≤_};
 ghost use lib.ListN.{length};
 ghost use Rattle.node.specs.Sizes.{nodeWords};
-ghost use Rattle.node.specs.Areas.{idAt};
 ghost use Rattle.plan.specs.Limits.{unitLimits, badBlock, overLimits};
 ghost use Rattle.plan.specs.Areas.{areas, shorter, shortAreas, shortLists};
 ghost use Rattle.plan.specs.Check.{someFrom, idAmong, idTwice};
+ghost use Rattle.plan.specs.Loops.{Ascending};
 
 // Number 1.
 pub fn bad_block(block: usize) -> bool
@@ -97,14 +97,14 @@ pub fn id_among(words: &[u32], n: usize, id: u32) -> bool
     false
 }
 
-// Each id of the first n nodes is above the one before it. Requires the words of all n.
-fn ids_ascend(words: &[u32], n: usize) -> bool
-    requires { ⌜ n * nodeWords ≤ length (now words) ⌝ }
-    ensures { λ r. ⌜ (r ≡ true → (i j : ℕ) → i < j → j < n → idAt (now (words .entry)) i < idAt (now (words .entry)) j) ⌝ }
+// Each of n entries, `each` places apart, is above the one before it. Requires a list that reaches past them, and places that differ.
+pub(crate) fn ascend(list: &[u32], n: usize, each: usize) -> bool
+    requires { ⌜ (n * each ≤ length (now list)) × (0 < each) ⌝ }
+    ensures { λ r. ⌜ (r ≡ true → Ascending each n (now (list .entry))) ⌝ }
 {
     let mut i = 1;
     while i < n {
-        if words[(i - 1) * Node::WORDS] >= words[i * Node::WORDS] {
+        if list[(i - 1) * each] >= list[i * each] {
             return false;
         }
         i += 1;
@@ -118,7 +118,7 @@ pub fn id_twice(words: &[u32], n: usize) -> bool
     ensures { λ r. ⌜ r ≡ idTwice (now (words .entry)) n ⌝ }
 {
     // Ids that ascend are all different, and most plans have such.
-    if ids_ascend(words, n) {
+    if ascend(words, n, Node::WORDS) {
         return false;
     }
     let mut later = n;

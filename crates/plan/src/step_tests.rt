@@ -5,12 +5,13 @@ use crate::Step;
 use node::Node;
 use sets::Set;
 ghost use mathlib.Core.Path.{_≡_};
-ghost use mathlib.Core.Bool.{false};
+ghost use mathlib.Core.Bool.{true, false, _||_};
 ghost use Prim.Native.Nat.{ℕ, _+_, _*_, _≤_};
 ghost use lib.ListN.{length};
 ghost use Rattle.sets.specs.Sets.{member};
 ghost use Rattle.plan.specs.Check.{someFrom, past, named, outside, used, firstOf, tooWide, has, meet, shares};
 ghost use Rattle.plan.specs.Sound.{Within, IndexList};
+ghost use Rattle.plan.specs.Loops.{Ascending, spanBefore};
 
 fn span_past(n: usize, span: Span) -> bool
     ensures { λ r. ⌜ r ≡ past n span ⌝ }
@@ -141,17 +142,29 @@ fn lists_meet(xs: &[u32], ys: &[u32]) -> bool
     false
 }
 
-// Requires spans within an index list that was tested.
-fn spans_meet(plan: Plan, indices: &[u32], src: Span, dst: Span) -> bool
-    requires { ⌜ IndexList plan (now indices) × Within (plan .indices) src × Within (plan .indices) dst ⌝ }
+// One span ends before the other starts.
+fn spans_apart(src: Span, dst: Span) -> bool
+    ensures { λ r. ⌜ r ≡ (spanBefore src dst || spanBefore dst src) ⌝ }
+{
+    (src.start as usize + src.len as usize <= dst.start as usize)
+        | (dst.start as usize + dst.len as usize <= src.start as usize)
+}
+
+// Requires spans within an index list that was tested, and one that ascends where it is said to.
+fn spans_meet(plan: Plan, indices: &[u32], ascending: bool, src: Span, dst: Span) -> bool
+    requires { ⌜ IndexList plan (now indices) × Within (plan .indices) src × Within (plan .indices) dst × (ascending ≡ true → Ascending 1 (plan .indices) (now indices)) ⌝ }
     ensures { λ r. ⌜ r ≡ meet (named (now (indices .entry)) src) (named (now (indices .entry)) dst) ⌝ }
 {
+    // A list that ascends, as the builder's does, names no buffer twice.
+    if ascending & spans_apart(src, dst) {
+        return false;
+    }
     lists_meet(numbers(indices, src), numbers(indices, dst))
 }
 
-// Number 6. Requires an index list that was tested, and a step that is inside its tables.
-pub(crate) fn step_shares(plan: Plan, indices: &[u32], step: Step) -> bool
-    requires { ⌜ IndexList plan (now indices) × (outside plan step ≡ false) ⌝ }
+// Number 6. Requires an index list that was tested, and that ascends where it is said to, and a step that is inside its tables.
+pub(crate) fn step_shares(plan: Plan, indices: &[u32], ascending: bool, step: Step) -> bool
+    requires { ⌜ IndexList plan (now indices) × (outside plan step ≡ false) × (ascending ≡ true → Ascending 1 (plan .indices) (now indices)) ⌝ }
     ensures { λ r. ⌜ r ≡ shares (now (indices .entry)) step ⌝ }
 {
     match step {
@@ -162,16 +175,16 @@ pub(crate) fn step_shares(plan: Plan, indices: &[u32], step: Step) -> bool
         } => false,
         Step::Gain { node: _, src, dst } => {
             let n = used(src, dst);
-            spans_meet(plan, indices, first_of(n, src), first_of(n, dst))
+            spans_meet(plan, indices, ascending, first_of(n, src), first_of(n, dst))
         }
-        Step::Matrix { node: _, src, dst } => spans_meet(plan, indices, src, dst),
+        Step::Matrix { node: _, src, dst } => spans_meet(plan, indices, ascending, src, dst),
         Step::Clear { dst: _ } => false,
         Step::Send {
             node: _,
             src,
             dst,
             coefficients: _,
-        } => spans_meet(plan, indices, src, dst),
+        } => spans_meet(plan, indices, ascending, src, dst),
         Step::Output { src: _, slot: _ } => false,
     }
 }

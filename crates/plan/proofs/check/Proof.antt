@@ -3,6 +3,7 @@ use mathlib.Core.Path.{_≡_, sym, ap, _∙_}
 use mathlib.Core.Bool.{false}
 use lib.ListN.{take}
 use lib.Seq.{length-take-le}
+use native.Mathlib.Omega.{arith}
 use borrow.Author.Needs.{needs}
 use Rattle.refusal.specs.declared.Answer.the-variants.{Refused}
 use Rattle.plan.specs.Limits.{unitLimits, badBlock, overLimits}
@@ -112,22 +113,25 @@ returns-5 c =
     ∙ sym (check-8 (a .plan) (a .short) (a .indices .now) (a .node-words .now) (a .steps .now) (not-1 (b2 .before .before)) (not-5 b2) (b3 .if3 .left) (not-4 b4)
     (sym (c .before .before .id-twice .ensures) ∙ c .before .if5 .taken))
 
+ascend-requires : tie.Need-ascend-requires
+ascend-requires c κs = let h = room (else-3 (c .before .before)) .entries in (omega arith, omega arith)
+
 slice-aggregate-check-steps : tie.Need-slice-aggregate-check-steps
 slice-aggregate-check-steps c =
-    let b3 = else-3 (c .before .before .before) in
+    let b3 = else-3 (c .before .before .before .before) in
     let a = start-3 b3 .args in
     sym (length-take-le (a .plan .words) (a .steps .now) (room b3 .step-words))
 
 check-steps-requires : tie.Need-check-steps-requires
 check-steps-requires c κs =
-    let b4 = c .before .before .before in
+    let b4 = c .before .before .before .before in
     let b3 = else-3 b4 in
     let l = limits-none unitLimits (start-3 b3 .args .plan) .0 (not-5 (b3 .before)) in
-    (record { room = room b3 .entries; few = l .buffers; entries = not-4 b4 }, l .steps)
+    (record { room = room b3 .entries; few = l .buffers; entries = not-4 b4 }, l .steps, c .before .ascend .ensures)
 
 returns-6 : tie.Need-returns-6
 returns-6 c =
-    let b5 = c .before .before in
+    let b5 = c .before .before .before in
     let b4 = b5 .before .before in
     let b3 = else-3 b4 in
     let b2 = b3 .before in
@@ -155,6 +159,7 @@ check-spec =
     id-twice-requires
     of-requires-5
     returns-5
+    ascend-requires
     slice-aggregate-check-steps
     check-steps-requires
     returns-6)

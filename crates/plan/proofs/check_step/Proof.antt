@@ -41,7 +41,7 @@ returns-2 c =
     ∙ sym (step-7 (a .plan) (a .indices .now) (a .place) (a .step) (not-4 t) (sym (c .before .before .step-wide .ensures) ∙ c .before .if2 .taken))
 
 step-shares-requires : tie.Need-step-shares-requires
-step-shares-requires c κs = (c .before .before .before .before .before .pre, not-4 (c .before .before))
+step-shares-requires c κs = let s = c .before .before .before .before .before in (s .pre .0, not-4 (c .before .before), s .pre .1)
 
 at-requires-3 : tie.Need-at-requires-3
 at-requires-3 c κs = search needs

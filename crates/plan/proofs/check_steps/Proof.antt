@@ -12,12 +12,12 @@ use Rattle.plan.proofs.check_steps.Statement.{statement}
 use Rattle.plan.proofs.check_steps.Tie as tie
 
 abbrev Inv-loop : tie.InvT-loop
-Inv-loop plan indices words n at₀ i₀ at i =
+Inv-loop plan indices ascending words n at₀ i₀ at i =
     (i ≤ n)
     × (first (stepsTests plan indices words n 0 1) Accepted ≡ first (stepsTests plan indices words (n - i) at (i + 1)) Accepted)
 
 abbrev μ-loop : tie.MeasureT-loop
-μ-loop plan indices words n at₀ i₀ at i = n - i
+μ-loop plan indices ascending words n at₀ i₀ at i = n - i
 
 loop-holds : tie.Need-loop-holds Inv-loop μ-loop
 loop-holds c = (omega arith, rw sub-zero)

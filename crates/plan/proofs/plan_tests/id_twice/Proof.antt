@@ -1,6 +1,7 @@
 -- `plan::plan_tests::id_twice` meets its contract. No node from `later` on has the id of one before it. Assumes nothing.
 use mathlib.Core.Path.{_≡_, refl, sym, _∙_}
-use Prim.Native.Nat.{ℕ, _<_, _≤_}
+use Prim.Native.Nat.{_≤_}
+use native.Mathlib.Nat.{ne-of-lt}
 use native.Mathlib.Omega.{arith}
 use borrow.Author.Needs.{needs}
 use Rattle.plan.specs.Check.{idTwice}
@@ -15,16 +16,13 @@ Inv-loop words n later₀ later = (later ≤ n) × (idTwice words n ≡ idTwice 
 abbrev μ-loop : tie.MeasureT-loop
 μ-loop words n later₀ later = later
 
-below-differs : {a b : ℕ} → a < b → a ≡ b → ⊥
-below-differs h e = omega arith
-
-ids-ascend-requires : tie.Need-ids-ascend-requires Inv-loop μ-loop
-ids-ascend-requires c κs = search needs
+ascend-requires : tie.Need-ascend-requires Inv-loop μ-loop
+ascend-requires c κs = search needs
 
 returns : tie.Need-returns Inv-loop μ-loop
 returns c =
     let a = c .before .before .before .args in
-    sym (ids-none (a .words .now) (a .n) .1 (λ i j h k. below-differs (c .before .ids-ascend .ensures (c .if1 .taken) i j h k)))
+    sym (ids-none (a .words .now) (a .n) .1 (λ i j h k. ne-of-lt (c .before .ascend .ensures (c .if1 .taken) i j h k)))
 
 loop-holds : tie.Need-loop-holds Inv-loop μ-loop
 loop-holds c = (omega arith, refl)
@@ -66,7 +64,7 @@ id-twice-spec =
     (tie.spec
     Inv-loop
     μ-loop
-    ids-ascend-requires
+    ascend-requires
     returns
     loop-holds
     sub-later

@@ -31,7 +31,7 @@ spans-meet-requires c κs =
     let u = c .before .before .used .ensures in
     let x = c .before .first-of .ensures in
     let y = c .first-of2 .ensures in
-    (s .pre .0, omega (arith, ap (λ (s : Span). s .start) x, ap (λ (s : Span). s .len) x), omega (arith, ap (λ (s : Span). s .start) y, ap (λ (s : Span). s .len) y))
+    (s .pre .0, omega (arith, ap (λ (s : Span). s .start) x, ap (λ (s : Span). s .len) x), omega (arith, ap (λ (s : Span). s .start) y, ap (λ (s : Span). s .len) y), s .pre .2)
 
 enum-known-step-2 : tie.Need-enum-known-step-2
 enum-known-step-2 c = search needs
@@ -40,7 +40,7 @@ spans-meet-requires-2 : tie.Need-spans-meet-requires-2
 spans-meet-requires-2 c κs =
     let s = c .before .before .before .before in
     let b = inside-as (s .args .plan) (s .pre .1) (c .before .step2 .given .1) in
-    (s .pre .0, b .1, b .2)
+    (s .pre .0, b .1, b .2, s .pre .2)
 
 enum-told-2 : tie.Need-enum-told-2
 enum-told-2 c = search needs
@@ -52,7 +52,7 @@ spans-meet-requires-3 : tie.Need-spans-meet-requires-3
 spans-meet-requires-3 c κs =
     let s = c .before .before .before .before in
     let b = inside-as (s .args .plan) (s .pre .1) (c .before .step3 .given .1) in
-    (s .pre .0, b .1, b .2)
+    (s .pre .0, b .1, b .2, s .pre .2)
 
 enum-told-3 : tie.Need-enum-told-3
 enum-told-3 c = search needs
