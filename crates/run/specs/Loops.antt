@@ -6,8 +6,10 @@ use mathlib.Core.Bool.{Bool, true, false}
 use mathlib.Core.List.{List, [], _∷_}
 use lib.ListN.{length}
 use lib.Ieee.{Float}
+use Rattle.lists.specs.Parts.{part, upto}
+use Rattle.node.specs.Sizes.{maxValues}
 use Rattle.node.specs.declared.Node.{Node}
-use Rattle.node.specs.Nodes.{finishBlock}
+use Rattle.node.specs.Nodes.{at, onRamp, finishBlock}
 use Rattle.node.specs.Areas.{Room, nodeAt, someBad}
 use Rattle.plan.specs.declared.Plan.{Plan}
 use Rattle.plan.specs.declared.Span.{Span}
@@ -70,6 +72,12 @@ pub record NodeFit (p : Plan) (indices : List ℕ) (floats : List Float) (words 
   pub area : p .buffers * p .block ≤ length buffers
 
 -- ---- a node
+
+-- the row cur that starts at a place, of which the first `len` values are m samples further on their ramps
+abbrev pub curRow : List Float → ℕ → ℕ → ℕ → List Float
+curRow floats k m len =
+    let cur = part k maxValues floats in
+    upto len (λ i. onRamp (at cur i) (at (part (k + 2 * maxValues) maxValues floats) i) m) cur
 
 -- node n at the end of a step's block
 abbrev pub ended : ℕ → List Float → List ℕ → ℕ → Node

@@ -5,15 +5,16 @@ use plan::Span;
 ghost use mathlib.Core.Path.{_≡_};
 ghost use Prim.Native.Nat.{_+_, _*_, _≤_};
 ghost use lib.ListN.{length};
+ghost use lib.Seq.{sets};
 ghost use Rattle.lists.specs.Parts.{part};
-ghost use Rattle.node.specs.Sizes.{maxValues, maxRamp};
+ghost use Rattle.node.specs.Sizes.{maxValues, nodeFloats, maxRamp};
 ghost use Rattle.node.specs.Nodes.{gainOf};
 ghost use Rattle.node.specs.Areas.{Room, lenAt, nodeAt, storedFloats, storedWords};
 ghost use Rattle.plan.specs.declared.Step.the-variants as step;
 ghost use Rattle.plan.specs.Check.{named};
 ghost use Rattle.plan.specs.Sound.{Within, Disjoint, Narrow, Apart};
 ghost use Rattle.mix.specs.Mix.{gained, rows, sends};
-ghost use Rattle.run.specs.Loops.{ended, NodeFit};
+ghost use Rattle.run.specs.Loops.{curRow, ended, NodeFit};
 
 // A row of a node. Requires floats that reach past it.
 fn row(floats: &[f32], at: usize) -> &[f32]
@@ -34,14 +35,34 @@ pub fn weights(coefficients: &[f32], span: Span) -> &[f32]
     &coefficients[start..end]
 }
 
-// The end of a step's block of node n; one at rest stays as it is. Requires areas that reach past it, a len of at most MAX, and a block no
-// longer than the longest ramp.
+// The row cur that starts at `at`, m samples of a ramp later, below len. Requires floats that reach past its node, a len of at most MAX, and
+// an m no longer than the longest ramp.
+fn advance(floats: &mut [f32], at: usize, len: usize, m: u32)
+    requires { ⌜ (at + nodeFloats ≤ length (now floats)) × (len ≤ maxValues) × (m ≤ maxRamp) ⌝ }
+    ensures { λ _. ⌜ now (floats .exit) ≡ sets (now (floats .entry)) at (curRow (now (floats .entry)) at m len) ⌝ }
+{
+    for i in 0..len {
+        floats[at + i] = floats[at + i] + floats[at + 2 * Node::MAX + i] * m as f32;
+    }
+}
+
+// The end of a step's block of node n; one at rest stays as it is, and of one whose ramp goes on nothing but cur and left change. Requires
+// areas that reach past it, a len of at most MAX, and a block no longer than the longest ramp.
 fn end_block(floats: &mut [f32], words: &mut [u32], n: usize, block: usize)
     requires { ⌜ Room (n + 1) (now floats) (now words) × (lenAt (now words) n ≤ maxValues) × (block ≤ maxRamp) ⌝ }
     ensures floats { λ _. ⌜ now (floats .exit) ≡ storedFloats (now (floats .entry)) n (ended block (now (floats .entry)) (now (words .entry)) n) ⌝ }
     ensures words { λ _. ⌜ now (words .exit) ≡ storedWords (now (words .entry)) n (ended block (now (floats .entry)) (now (words .entry)) n) ⌝ }
 {
-    if words[n * Node::WORDS + 2] == 0 {
+    let w = n * Node::WORDS;
+    let left = words[w + 2];
+    if left == 0 {
+        return;
+    }
+    let m = block as u32;
+    if left > m {
+        let len = words[w + 1] as usize;
+        advance(floats, n * Node::FLOATS, len, m);
+        words[w + 2] = left - m;
         return;
     }
     let node = node::load(&floats[..], &words[..], n);
