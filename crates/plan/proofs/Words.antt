@@ -1,19 +1,19 @@
--- The step words: each map's number and its fields, what stands at a place by the kind of its map, and the list of steps turn by turn.
+-- The step words: each map's number and its fields, of which there are few, what stands at a place by the kind of its map, and the list of steps turn by turn.
 -- Assumes nothing.
 use mathlib.Core.Path.{_≡_, refl, ap, _∙_}
 use mathlib.Core.Bool.{Bool, true, false, cond}
 use mathlib.Core.List.{List, [], _∷_}
-use Prim.Native.Nat.{ℕ, suc, _+_, _≤_, _<_}
+use Prim.Native.Nat.{ℕ, suc, _+_, _%_, _≤_, _<_}
 use native.Mathlib.Omega.{arith}
 use lib.ListN.{length}
-use lib.Count.{ones, onesIn}
+use lib.Count.{ones, ones-le, onesIn}
 use lib.Dec.{ltb, leb}
 use borrow.Author.Tests.{lt-ltb, le-ltb, le-leb, lt-leb, ne-eqb}
 use Rattle.plan.specs.declared.Span.{Span}
 use Rattle.plan.specs.declared.Step.{Step}
 use Rattle.plan.specs.declared.Step.the-variants.{Patch, Gain, Matrix, Clear, Send, Output}
 use Rattle.plan.specs.declared.Read.the-variants.{Found, Bad}
-use Rattle.plan.specs.Words.{patchMap, gainMap, matrixMap, clearMap, sendMap, outputMap, fields, stepOf, readAt, decodedFrom, decoded}
+use Rattle.plan.specs.Words.{patchMap, gainMap, matrixMap, clearMap, sendMap, outputMap, fieldBits, fields, stepOf, readAt, decodedFrom, decoded}
 use Rattle.plan.specs.Records.{word, patchAt, gainAt, matrixAt, clearAt, sendAt, outputAt}
 
 -- ---- document 01's decimal numbers
@@ -35,7 +35,10 @@ send-map = refl
 pub output-map : outputMap ≡ 1072
 output-map = refl
 
--- ---- the fields of each
+-- ---- how many fields a map can have, and the fields of each
+pub fields-few : (map : ℕ) → fields map ≤ fieldBits
+fields-few map = ones-le 11 (map % 2048) (omega arith)
+
 pub patch-fields : fields patchMap ≡ 3
 unfolding ones onesIn
 patch-fields = refl

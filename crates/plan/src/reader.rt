@@ -4,6 +4,7 @@ use crate::Span;
 use crate::Step;
 ghost use mathlib.Core.Path.{_≡_};
 ghost use Prim.Native.Nat.{_+_, _<_, _≤_};
+ghost use lib.Dec.{leb};
 ghost use lib.ListN.{length};
 ghost use Rattle.plan.specs.Words.{fieldBits, fields, readAt};
 ghost use Rattle.plan.specs.Records.{patchAt, gainAt, matrixAt, clearAt, sendAt, outputAt};
@@ -110,10 +111,23 @@ fn output_at(words: &[u32], at: usize) -> Step
 // 2 to the 11th: the bits below it, 0 to 10, have a field.
 const FIELD_BITS: u32 = 2048;
 
+const MAX_FIELDS: usize = 11;
+
 pub fn field_count(map: u32) -> usize
     ensures { λ r. ⌜ (r ≡ fields map) × (r ≤ fieldBits) ⌝ }
 {
     u32::count_ones(map % FIELD_BITS) as usize
+}
+
+// A record with this map is longer than the words that are left.
+fn cut_off(map: u32, left: usize) -> bool
+    ensures { λ r. ⌜ r ≡ leb left (fields map) ⌝ }
+{
+    // No map has more fields than 11, so that they are counted near the end of the words alone.
+    if left > MAX_FIELDS {
+        return false;
+    }
+    field_count(map) >= left
 }
 
 // What stands at a place of the step words.
@@ -124,7 +138,7 @@ pub fn read_step(words: &[u32], at: usize) -> Read
         return Read::Bad;
     }
     let map = words[at];
-    if field_count(map) >= words.len() - at {
+    if cut_off(map, words.len() - at) {
         return Read::Bad;
     }
     // The place after the record is worked out from the arm's own map: it is then a constant, and the next read does not wait for the

@@ -1,8 +1,9 @@
 -- `plan::reader::field_count` meets its contract: the ones of a u32 fit a usize, and 11 bits have at most 11 of them. Assumes nothing.
 use mathlib.Core.Path.{refl}
-use Prim.Native.Nat.{ℕ, _%_, _^_, _<_}
+use Prim.Native.Nat.{ℕ, _^_, _<_}
 use native.Mathlib.Omega.{arith}
 use lib.Count.{ones, ones-le}
+use Rattle.plan.proofs.Words.{fields-few}
 use Rattle.plan.proofs.reader.field_count.Statement.{statement}
 use Rattle.plan.proofs.reader.field_count.Tie as tie
 
@@ -13,7 +14,7 @@ cast-result : tie.Need-cast-result
 cast-result c = record { fits = few _ (omega arith) }
 
 returns : tie.Need-returns
-returns c = (refl, ones-le 11 (c .args .map % 2048) (omega arith))
+returns c = (refl, fields-few (c .args .map))
 
 pub field-count-spec : {M : Type 1} → statement M
 field-count-spec = tie.close (tie.spec cast-result returns)
