@@ -15,11 +15,11 @@ use Rattle.node.specs.declared.Gain.{Gain}
 use Rattle.node.specs.declared.Gain.the-variants.{Rest, Moving}
 use Rattle.node.specs.Nodes.{factor}
 use Rattle.plan.specs.Check.{has}
+use Rattle.plan.proofs.Bools.{or-some}
 use Rattle.mix.specs.Samples.{silence, sample, put}
 use Rattle.mix.specs.Mix.{scaled, added, weighted, sent, scale, mixIn, sendIn, clearBuffer, gained, columns, rows, weighs, sends, cleared}
 use Rattle.mix.proofs.Put.{length-put, put-sample, put-other}
 use Rattle.run.proofs.Fits.{buffer-inside}
-use Rattle.theorem.proofs.Bools.{or-cases}
 
 -- of each of a list
 abbrev pub All : (ℕ → Type 0) → List ℕ → Type 0
@@ -109,7 +109,7 @@ module _ (b₁ k₁ b₂ k₂ : ℕ) (h₁ : k₁ < b₁) (h₂ : k₂ < b₂) w
 
     first-or-later : (d : ℕ) (dst : List ℕ) (b : ℕ) → has (d ∷ dst) b ≡ true → (b ≡ d) ⊎ (has dst b ≡ true)
     unfolding has
-    first-or-later d dst b e = go (or-cases (eqb d b) (has dst b) e)
+    first-or-later d dst b e = go (or-some (eqb d b) (has dst b) e)
       where
         go : (eqb d b ≡ true) ⊎ (has dst b ≡ true) → (b ≡ d) ⊎ (has dst b ≡ true)
         go (inl p) = inl (sym (eqb-true d b p))

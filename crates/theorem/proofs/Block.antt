@@ -15,6 +15,7 @@ use Rattle.node.specs.declared.Gain.{Gain}
 use Rattle.node.specs.Nodes.{gainOf}
 use Rattle.node.specs.Areas.{nodeAt}
 use Rattle.plan.specs.Check.{has}
+use Rattle.plan.proofs.Bools.{and-both}
 use Rattle.plan.specs.Resolved.{Resolved, patch, gain, matrix, clear, send, output}
 use Rattle.mix.specs.Samples.{sample, put}
 use Rattle.mix.specs.Mix.{gained, rows, sends, cleared}
@@ -25,7 +26,7 @@ use Rattle.run.specs.Run.{State, stepped, runSteps, outputChannels}
 use Rattle.run.proofs.States.{step-lengths}
 use Rattle.trace.specs.Sources.{union, spread, joins, behind}
 use Rattle.trace.specs.Clean.{written, all, cleanStep, cleanFrom}
-use Rattle.theorem.proofs.Bools.{or-left, or-right, and-both, and-intro}
+use Rattle.theorem.proofs.Bools.{or-left, or-right, and-intro}
 use Rattle.theorem.proofs.Agree.{All, all-at, Agree, Hold, Paired, gained-paired, rows-paired, sends-paired, cleared-paired, patch-paired}
 use Rattle.theorem.proofs.Steps.{InPlan, width, channels-more, wrote-step, none-of, SameNodes, even, nodes-step, hold-step}
 
