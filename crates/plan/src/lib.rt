@@ -26,6 +26,7 @@ pub use plan_tests::shorter;
 pub use reader::field_count;
 pub use reader::read_step;
 pub use step_tests::numbers;
+pub use step_tests::set_of;
 pub use step_tests::step_wide;
 pub use step_tests::used;
 

@@ -112,8 +112,8 @@ pub fn numbers(indices: &[u32], span: Span) -> &[u32]
     &indices[start..end]
 }
 
-// Requires entries below 256.
-fn set_of(list: &[u32]) -> Set
+// The entries of a list. Requires entries below 256.
+pub fn set_of(list: &[u32]) -> Set
     requires { ⌜ someFrom 256 (now list) ≡ false ⌝ }
     ensures { λ r. ⌜ ((j : ℕ) → member r j ≡ has (now (list .entry)) j) ⌝ }
 {

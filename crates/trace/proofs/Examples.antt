@@ -8,17 +8,22 @@ use Rattle.refusal.specs.Tests.{refusal}
 use Rattle.sets.specs.Sets.{sift}
 use Rattle.plan.specs.declared.Plan.{Plan}
 use Rattle.plan.specs.Words.{patchMap, clearMap, sendMap, outputMap, stepOf, readAt, decodedFrom, decoded}
-use Rattle.plan.specs.Check.{someFrom, idAmong, idTwice, outside, tooWide, has, meet, shares, stepsTests}
+use Rattle.plan.specs.Check.{someFrom, idAmong, idTwice, outside, tooWide, has, meet, shares, stepsTests, checked}
 use Rattle.plan.specs.Resolved.{resolvedSteps}
 use Rattle.trace.specs.Sources.{union, spread, joins, behind, sourceList, slotCount}
-use Rattle.trace.specs.Calls.{tracedSteps, traceAnswer, sourcesAnswer, sourcesArea}
+use Rattle.trace.specs.Clean.{written, all, cleanStep, cleanFrom, clean}
+use Rattle.trace.specs.Calls.{tracedSteps, traceAnswer, sourcesAnswer, sourcesArea, cleanAnswer}
 use Rattle.trace.specs.declared.Sources.{Sources}
 use Rattle.trace.specs.declared.Sources.the-variants.{Listed, Refused}
+use Rattle.trace.specs.declared.CleanAnswer.the-variants.{Clean, NotClean}
 use Rattle.trace.proofs.Behind.{traced-coefficients}
 
 -- Patch of an input to buffer 0, Clear 1, Send 0 to 1, Output 1 to slot 2. The index list is the two buffers, and the Send has one weight.
 abbrev plan : Plan
 plan = record { block = 1; buffers = 2; indices = 2; coefficients = 1; nodes = 1; steps = 4; words = 19 }
+
+abbrev unclear : Plan
+unclear = record { block = 1; buffers = 2; indices = 2; coefficients = 1; nodes = 1; steps = 3; words = 16 }
 
 abbrev indices : List ℕ
 indices = 0 ∷ 1 ∷ []
@@ -68,3 +73,12 @@ case-8-weight weight = traced-coefficients plan indices (weight ∷ []) (steps 3
 pub fault-before-15 : answered 256 3 ≡ Refused (refusal 4 1)
 unfolding sourcesAnswer traceAnswer someFrom idAmong idTwice stepsTests readAt stepOf ones onesIn outside slotCount
 fault-before-15 = refl
+
+-- the plan is clean, and without its Clear, of which no step writes buffer 1, it is not
+pub case-8-clean : cleanAnswer plan indices (7 ∷ 1 ∷ 0 ∷ []) (steps 3) ≡ Clean
+unfolding cleanAnswer checked someFrom idAmong idTwice stepsTests readAt stepOf ones onesIn outside tooWide has meet shares decoded decodedFrom written all cleanStep cleanFrom clean
+case-8-clean = refl
+
+pub send-to-unwritten : cleanAnswer unclear indices (7 ∷ 1 ∷ 0 ∷ []) (patchMap ∷ 3 ∷ 0 ∷ 0 ∷ sendMap ∷ 0 ∷ 0 ∷ 1 ∷ 1 ∷ 1 ∷ 0 ∷ 1 ∷ outputMap ∷ 1 ∷ 1 ∷ 2 ∷ []) ≡ NotClean
+unfolding cleanAnswer checked someFrom idAmong idTwice stepsTests readAt stepOf ones onesIn outside tooWide has meet shares decoded decodedFrom written all cleanStep cleanFrom clean
+send-to-unwritten = refl

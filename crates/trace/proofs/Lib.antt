@@ -8,3 +8,4 @@ pub mod Examples
 mod Stored
 mod Walking
 mod Outcomes
+mod Cleaning

@@ -1,13 +1,14 @@
--- What each test of `output_sources` makes of its answer and of the list's area: one law for each way out. Assumes nothing.
+-- What each test makes of the answers of `output_sources` and `clean_answer`, and of the list's area: one law for each way out.
+-- Assumes nothing.
 use mathlib.Core.Path.{_≡_, sym, ap, _∙_}
-use mathlib.Core.Bool.{true, false}
+use mathlib.Core.Bool.{Bool, true, false, cond}
 use mathlib.Core.List.{List, _++_}
 use Prim.Native.Nat.{ℕ, _≤_, _<_}
 use native.Mathlib.Nat.{zero-add}
 use native.Mathlib.Omega.{arith}
 use lib.Dec.{ltb, leb}
 use lib.ListN.{length, drop, take}
-use lib.Seq.{sets, sets-eq}
+use lib.Seq.{sets, sets-eq, length-take-le}
 use borrow.Author.Tests.{ltb-true, ltb-false, lt-ltb, le-ltb, le-leb, lt-leb}
 use Rattle.refusal.specs.Numbers.{shortArea, noSlot}
 use Rattle.refusal.specs.Tests.{refusal, Test, first}
@@ -25,9 +26,11 @@ use Rattle.plan.specs.Resolved.{Resolved}
 use Rattle.plan.proofs.Exact.{accepted-passes}
 use Rattle.plan.proofs.Accepted.{accepted-limits, accepted-list, accepted-lists}
 use Rattle.trace.specs.Sources.{noSources, behind, sourceList, slotCount}
-use Rattle.trace.specs.Calls.{tracedSteps, traceAnswer, sourcesAnswer, sourcesArea}
+use Rattle.trace.specs.Clean.{clean}
+use Rattle.trace.specs.Calls.{tracedSteps, traceAnswer, sourcesAnswer, sourcesArea, cleanAnswer}
 use Rattle.trace.specs.Loops.{Tested}
 use Rattle.trace.specs.declared.Sources.the-variants as sources
+use Rattle.trace.specs.declared.CleanAnswer.the-variants as answers
 
 module _ (p : Plan) (slot : ℕ) (indices words steps area : List ℕ) where
   abbrev xs : List Resolved
@@ -91,13 +94,35 @@ module _ (p : Plan) (slot : ℕ) (indices words steps area : List ℕ) where
       l ∙ front h ∙ ap (sets area 0) list-is ∙ sym (outcome-accepted answer _ (λ _. area) e),
     )
 
--- ---- what the plan check leaves to the walk
-pub tested : (p : Plan) (indices words steps : List ℕ) → checked p (shortLists p indices words steps) indices words steps ≡ Accepted
-    → Tested p indices (take (p .words) steps)
-tested p indices words steps e =
-    let short = shortLists p indices words steps in
-    record {
-      list = accepted-list p short indices words steps e (accepted-lists p indices words steps e .entries);
-      steps = accepted-limits p short indices words steps e .steps;
-      pass = accepted-passes p short indices words steps e;
-    }
+-- ---- what the plan check leaves to the walks, and the ways out of `clean_answer`
+module _ (p : Plan) (indices words steps : List ℕ) where
+  abbrev checks : Answer
+  checks = checked p (shortLists p indices words steps) indices words steps
+
+  abbrev clean-is : Bool
+  clean-is = clean (tracedSteps p indices steps)
+
+  pub clean-refused : (r : Refusal) → checks ≡ Refused r → cleanAnswer p indices words steps ≡ answers.Refused r
+  unfolding cleanAnswer
+  clean-refused r e = outcome-refused checks (cond clean-is answers.Clean answers.NotClean) answers.Refused r e
+
+  module _ (e : checks ≡ Accepted) where
+    pub tested : Tested p indices (take (p .words) steps)
+    tested =
+        let short = shortLists p indices words steps in
+        record {
+          list = accepted-list p short indices words steps e (accepted-lists p indices words steps e .entries);
+          steps = accepted-limits p short indices words steps e .steps;
+          pass = accepted-passes p short indices words steps e;
+        }
+
+    pub step-words : p .words ≡ length (take (p .words) steps)
+    step-words = sym (length-take-le (p .words) steps (accepted-lists p indices words steps e .step-words))
+
+    pub clean-yes : clean-is ≡ true → cleanAnswer p indices words steps ≡ answers.Clean
+    unfolding cleanAnswer
+    clean-yes h = outcome-accepted checks (cond clean-is answers.Clean answers.NotClean) answers.Refused e ∙ rw h
+
+    pub clean-no : clean-is ≡ false → cleanAnswer p indices words steps ≡ answers.NotClean
+    unfolding cleanAnswer
+    clean-no h = outcome-accepted checks (cond clean-is answers.Clean answers.NotClean) answers.Refused e ∙ rw h

@@ -1,8 +1,10 @@
 // The trace: the inputs behind each output of a plan. Ports `output_sources` of src/engine/plan.rs; the clean answer is added.
 mod buffer_sets;
+mod clean;
 mod slots;
 mod walk;
 
+use clean::all_clean;
 use plan::Plan;
 use refusal::Answer;
 use refusal::Refusal;
@@ -10,7 +12,9 @@ use slots::has_slot;
 use walk::behind;
 ghost use mathlib.Core.Path.{_≡_};
 ghost use lib.ListN.{length};
-ghost use Rattle.trace.specs.Calls.{sourcesAnswer, sourcesArea};
+ghost use Rattle.plan.specs.Areas.{shortLists};
+ghost use Rattle.plan.specs.Check.{checked};
+ghost use Rattle.trace.specs.Calls.{sourcesAnswer, sourcesArea, cleanAnswer};
 
 // The answer of `output_sources`: how many inputs are behind the slot.
 pub enum Sources {
@@ -25,6 +29,14 @@ pub enum CleanAnswer {
     Refused(Refusal),
 }
 
+// The plan check of a call that is lent these three areas.
+fn check(plan: Plan, indices: &[u32], node_words: &[u32], steps: &[u32]) -> Answer
+    ensures { λ r. ⌜ r ≡ checked plan (shortLists plan (now (indices .entry)) (now («node_words» .entry)) (now (steps .entry))) (now (indices .entry)) (now («node_words» .entry)) (now (steps .entry)) ⌝ }
+{
+    let short = plan::short_lists(plan, indices, node_words, steps);
+    plan::check(plan, short, indices, node_words, steps)
+}
+
 // The inputs behind one slot, ascending, at the front of `list`. The Rust hands out the lists of all slots at once.
 pub fn output_sources(
     plan: Plan,
@@ -37,8 +49,7 @@ pub fn output_sources(
     ensures answer { λ r. ⌜ r ≡ sourcesAnswer plan slot (now (indices .entry)) (now («node_words» .entry)) (now (steps .entry)) (length (now (list .entry))) ⌝ }
     ensures list { λ _. ⌜ now (list .exit) ≡ sourcesArea plan slot (now (indices .entry)) (now («node_words» .entry)) (now (steps .entry)) (now (list .entry)) ⌝ }
 {
-    let short = plan::short_lists(plan, indices, node_words, steps);
-    if let Answer::Refused(r) = plan::check(plan, short, indices, node_words, steps) {
+    if let Answer::Refused(r) = check(plan, indices, node_words, steps) {
         return Sources::Refused(r);
     }
     let words = plan.words;
@@ -52,4 +63,18 @@ pub fn output_sources(
     }
     set.list(list);
     Sources::Listed(count)
+}
+
+// Whether a plan is clean, as document 01 has it.
+pub fn clean_answer(plan: Plan, indices: &[u32], node_words: &[u32], steps: &[u32]) -> CleanAnswer
+    ensures { λ r. ⌜ r ≡ cleanAnswer plan (now (indices .entry)) (now («node_words» .entry)) (now (steps .entry)) ⌝ }
+{
+    if let Answer::Refused(r) = check(plan, indices, node_words, steps) {
+        return CleanAnswer::Refused(r);
+    }
+    let words = plan.words;
+    if all_clean(plan, indices, &steps[..words]) {
+        return CleanAnswer::Clean;
+    }
+    CleanAnswer::NotClean
 }
