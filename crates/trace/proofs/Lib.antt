@@ -2,9 +2,11 @@
 
 -- the inputs behind a slot of a plan, and the list of them
 pub mod Behind
+-- what the answers say
+pub mod Answers
 -- document 01's case 8, and a plan with a fault of its own
 pub mod Examples
--- for this crate's own proofs: the area of the source sets, the walk of the steps, and the ways out of `output_sources`
+-- for this crate's own proofs: the area of the source sets, the walks of the trace and of the clean answer, and the ways out of both calls
 mod Stored
 mod Walking
 mod Outcomes
