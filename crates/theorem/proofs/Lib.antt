@@ -29,3 +29,9 @@ pub mod CleanPlans
 pub mod TwoLists
 -- the recorder's corollary
 pub mod Recorder
+-- ---- examples of the statement, by computation
+
+-- what they share
+pub mod ExampleParts
+-- premises that are not idle
+pub mod ExamplePremises
