@@ -33,5 +33,7 @@ pub mod Recorder
 
 -- what they share
 pub mod ExampleParts
+-- two lists that meet every premise
+pub mod ExampleLists
 -- premises that are not idle
 pub mod ExamplePremises
