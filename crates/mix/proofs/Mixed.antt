@@ -1,6 +1,7 @@
--- The loops over the samples of a piece, one piece of a buffer through a local, and pieces that make a whole buffer: one law for whatever is
+-- A ramp over a piece; the loops over the samples of a piece, one piece of a buffer through a local, and pieces that make a whole buffer: one law for whatever is
 -- done to a sample. Assumes nothing.
 use mathlib.Core.Path.{_≡_, refl, ap, _∙_}
+use mathlib.Core.Bool.{true}
 use mathlib.Core.List.{List}
 use mathlib.Core.Logic.{inr}
 use Prim.Native.Nat.{ℕ, _+_, _-_, _*_, _≤_, _<_}
@@ -9,13 +10,22 @@ use native.Mathlib.Omega.{arith}
 use lib.ListN.{length, getD, drop, set, length-take, length-drop}
 use lib.Seq.{sets, length-sets, getD-take, getD-drop}
 use lib.Ieee.{Float, nan}
+use borrow.Author.Tests.{le-leb, leb-true}
 use borrow.Rule.Slice.PartMut.{putMid, midOf}
 use Rattle.lists.proofs.Stores.{getD-sets}
+use Rattle.node.specs.declared.Gain.{Gain}
+use Rattle.node.specs.declared.Gain.the-variants.{Rest, Moving}
 use Rattle.mix.specs.Samples.{sample, sampled, put}
 use Rattle.mix.specs.Mix.{Pair}
-use Rattle.mix.specs.Loops.{mixedInto, mixedAt}
+use Rattle.mix.specs.Loops.{ramping, mixedInto, mixedAt}
 use Rattle.mix.proofs.Stored.{length-sampled, turn, run-more, stored-at, part-stored, sampled-same, none-stored}
 use Rattle.mix.proofs.Put.{begun-other, begun-same}
+
+-- ---- a ramp that lasts to a sample lasts to every one before it
+pub ramping-before : (g : Gain) (m n : ℕ) → m ≤ n → ramping g n ≡ true → ramping g m ≡ true
+unfolding ramping
+ramping-before (Rest t) m n h e = e
+ramping-before (Moving cur step t left) m n h e = le-leb m left (omega (arith, leb-true n left e))
 
 -- ---- the samples of a local, from those of a part
 module _ (f : ℕ → Float → Float → Float) (k : ℕ) (x y₀ : List Float) where

@@ -2,13 +2,13 @@
 use node::Gain;
 ghost use mathlib.Core.Path.{_≡_};
 ghost use Prim.Native.Nat.{ℕ, _+_, _≤_, _<_};
-ghost use mathlib.Core.Bool.{cond};
+ghost use mathlib.Core.Bool.{true, cond};
 ghost use lib.ListN.{length, getD};
 ghost use lib.Ieee.{nan};
 ghost use Rattle.node.specs.Nodes.{factor};
 ghost use Rattle.mix.specs.Samples.{silence, sampled};
 ghost use Rattle.mix.specs.Mix.{maxBlock, silent, scaled};
-ghost use Rattle.mix.specs.Loops.{plusScaled, plusWeighted, mixedInto};
+ghost use Rattle.mix.specs.Loops.{ramping, plusScaled, plusWeighted, mixedInto};
 
 // One of two values. Both are worked out before, so that LLVM makes a select of it and the sample loops stay without a branch.
 fn either(first: bool, x: f32, y: f32) -> f32
@@ -17,16 +17,31 @@ fn either(first: bool, x: f32, y: f32) -> f32
     if first { x } else { y }
 }
 
-// `Gain::factor` for the sample loops: a cast from u16 is fast. Requires a sample of a block.
-fn at(g: Gain, k: u32) -> f32
-    requires { ⌜ k < maxBlock ⌝ }
+// The samples before n are all on the ramp of a gain that moves.
+fn on_ramp(g: Gain, n: usize) -> bool
+    ensures { λ r. ⌜ r ≡ ramping g n ⌝ }
+{
+    match g {
+        Gain::Rest(_) => false,
+        Gain::Moving(_, _, _, left) => n <= left as usize,
+    }
+}
+
+// `Gain::factor` for the sample loops: a cast from i32 is fast, and where the whole piece is on the ramp, no sample asks whether it is.
+// Requires a sample of a block, and that it is on the ramp where the whole piece is said to be.
+fn at(g: Gain, k: u32, whole: bool) -> f32
+    requires { ⌜ (k < maxBlock) × (whole ≡ true → ramping g (k + 1) ≡ true) ⌝ }
     ensures { λ r. ⌜ r ≡ factor g k ⌝ }
 {
     match g {
         Gain::Rest(t) => t,
         Gain::Moving(cur, step, t, left) => {
-            let i = (k + 1) as u16;
-            either(k < left, cur + step * (i as f32), t)
+            let i = (k + 1) as i32;
+            let v = cur + step * (i as f32);
+            if whole {
+                return v;
+            }
+            either(k < left, v, t)
         }
     }
 }
@@ -64,8 +79,9 @@ pub fn scale_samples(x: &[f32], y: &mut [f32; 16], k: usize, g: Gain)
     ensures { λ _. ⌜ length (now (y .exit)) ≡ 16 ⌝ }
     ensures { λ _. ⌜ now (y .exit) ≡ mixedInto (λ k x y. scaled g k x) k (length (now (x .entry))) (now (x .entry)) (now (y .entry)) ⌝ }
 {
+    let whole = on_ramp(g, k + x.len());
     for i in 0..x.len() {
-        y[i] = x[i] * at(g, (k + i) as u32);
+        y[i] = x[i] * at(g, (k + i) as u32, whole);
     }
 }
 
@@ -76,8 +92,9 @@ pub fn add_samples(x: &[f32], y: &mut [f32; 16], k: usize, g: Gain)
     ensures { λ _. ⌜ length (now (y .exit)) ≡ 16 ⌝ }
     ensures { λ _. ⌜ now (y .exit) ≡ mixedInto (plusScaled g) k (length (now (x .entry))) (now (x .entry)) (now (y .entry)) ⌝ }
 {
+    let whole = on_ramp(g, k + x.len());
     for i in 0..x.len() {
-        y[i] = y[i] + x[i] * at(g, (k + i) as u32);
+        y[i] = y[i] + x[i] * at(g, (k + i) as u32, whole);
     }
 }
 
@@ -88,8 +105,9 @@ pub fn weigh_samples(x: &[f32], y: &mut [f32; 16], k: usize, w: f32, g: Gain)
     ensures { λ _. ⌜ length (now (y .exit)) ≡ 16 ⌝ }
     ensures { λ _. ⌜ now (y .exit) ≡ mixedInto (plusWeighted w g) k (length (now (x .entry))) (now (x .entry)) (now (y .entry)) ⌝ }
 {
+    let whole = on_ramp(g, k + x.len());
     for i in 0..x.len() {
-        y[i] = y[i] + x[i] * w * at(g, (k + i) as u32);
+        y[i] = y[i] + x[i] * w * at(g, (k + i) as u32, whole);
     }
 }
 

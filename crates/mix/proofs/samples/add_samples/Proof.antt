@@ -1,20 +1,26 @@
 -- `add_samples` meets its contract: the invariant is that the first i samples are done. Assumes nothing.
-use mathlib.Core.Path.{_≡_, refl}
-use Prim.Native.Nat.{_-_, _≤_}
+use mathlib.Core.Path.{_≡_, refl, sym, _∙_}
+use Prim.Native.Nat.{_+_, _-_, _≤_}
 use native.Mathlib.Omega.{arith}
 use lib.ListN.{length, length-set}
 use borrow.Author.Needs.{needs}
 use Rattle.mix.specs.Loops.{plusScaled, mixedInto}
 use Rattle.mix.specs.Samples.{sampled}
-use Rattle.mix.proofs.Mixed.{mixed-turn}
+use Rattle.mix.proofs.Mixed.{ramping-before, mixed-turn}
 use Rattle.mix.proofs.samples.add_samples.Statement.{statement}
 use Rattle.mix.proofs.samples.add_samples.Tie as tie
 
 abbrev Inv-loop : tie.InvT-loop
-Inv-loop x y₀ k g i₀ i-end y i = (i ≤ i-end) × (length y ≡ length y₀) × (y ≡ mixedInto (plusScaled g) k i x y₀)
+Inv-loop x y₀ k g whole i₀ i-end y i = (i ≤ i-end) × (length y ≡ length y₀) × (y ≡ mixedInto (plusScaled g) k i x y₀)
 
 abbrev μ-loop : tie.MeasureT-loop
-μ-loop x y₀ k g i₀ i-end y i = i-end - i
+μ-loop x y₀ k g whole i₀ i-end y i = i-end - i
+
+add-on-ramp : tie.Need-add-on-ramp Inv-loop μ-loop
+add-on-ramp c = search needs
+
+on-ramp-requires : tie.Need-on-ramp-requires Inv-loop μ-loop
+on-ramp-requires c κs = search needs
 
 loop-holds : tie.Need-loop-holds Inv-loop μ-loop
 unfolding mixedInto sampled
@@ -39,7 +45,11 @@ cast-at : tie.Need-cast-at Inv-loop μ-loop
 cast-at c = search needs
 
 at-requires : tie.Need-at-requires Inv-loop μ-loop
-at-requires c κs = search needs
+at-requires c κs =
+    let l = c .before .before .before in
+    let s = l .before .before .before in
+    let n = s .args .k + length (s .args .x .now) in
+    (search needs, λ e. ramping-before (s .args .g) (s .args .k + l .loop .i + 1) n (omega arith) (sym (l .before .on-ramp .ensures) ∙ e))
 
 mul-y-3 : tie.Need-mul-y-3 Inv-loop μ-loop
 mul-y-3 c = search needs
@@ -55,13 +65,13 @@ loop-less c = search needs
 
 loop-again : tie.Need-loop-again Inv-loop μ-loop
 loop-again c =
-    let a = c .before .before .before .before .before .before .args in
+    let a = c .before .before .before .before .before .before .before .args in
     let l = c .before .before .before .before .loop in
     (search needs, simp length-set (l .inv .1), rw (c .at .ensures) (mixed-turn (plusScaled (a .g)) (a .k) (a .x .now) (a .y .now) (l .i) (l .inv .2)))
 
 returns : tie.Need-returns Inv-loop μ-loop
 returns c =
-    let e : c .before .loop .i ≡ length (c .before .before .before .args .x .now) = omega arith in
+    let e : c .before .loop .i ≡ length (c .before .before .before .before .args .x .now) = omega arith in
     (search needs, rw e at (c .before .loop .inv .2))
 
 pub add-samples-spec : {M : Type 1} → statement M
@@ -70,6 +80,8 @@ add-samples-spec =
     (tie.spec
     Inv-loop
     μ-loop
+    add-on-ramp
+    on-ramp-requires
     loop-holds
     mul-y
     element-copy-out-y
