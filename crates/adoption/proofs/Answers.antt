@@ -1,0 +1,84 @@
+-- What an adoption's answer says of the tests, and what the call leaves by it. Assumes nothing.
+use mathlib.Core.Path.{_≡_}
+use mathlib.Core.Bool.{Bool, false, _||_}
+use mathlib.Core.List.{List}
+use Prim.Native.Nat.{ℕ, _*_, _%_, _≤_}
+use lib.ListN.{length}
+use lib.Dec.{eqb}
+use borrow.Author.Tests.{ltb-false, eqb-true, not-false}
+use Rattle.refusal.specs.declared.Refusal.{Refusal}
+use Rattle.refusal.specs.declared.Answer.{Answer}
+use Rattle.refusal.specs.declared.Answer.the-variants.{Accepted, Refused}
+use Rattle.refusal.proofs.Laws.{accepted-none, outcome-accepted, refused-keeps}
+use Rattle.node.specs.Sizes.{nodeFloats, nodeWords, maxRamp}
+use Rattle.node.specs.Areas.{Room}
+use Rattle.plan.specs.Limits.{unitLimits}
+use Rattle.plan.specs.Areas.{shorter}
+use Rattle.plan.proofs.Bools.{or-none}
+use Rattle.adoption.specs.Adoption.{Lent, shortNodes, badNodes, adoptionTests, adoptionAnswer, pairsAdopted, adoptionFloats, adoptionWords}
+use Rattle.adoption.specs.Fits.{Fit}
+
+-- two tests that a call worked out
+pub or-is : {a b x y r : Bool} → a ≡ x → b ≡ y → (a || b) ≡ r → (x || y) ≡ r
+or-is p q e = cc
+
+pub enough : (l : Lent) → shortNodes l ≡ false → Room (l .count) (l .floats) (l .words)
+enough l e =
+    let a = or-none (shorter (length (l .floats)) (l .count) nodeFloats) _ e in
+    (ltb-false (length (l .floats)) (l .count * nodeFloats) (a .0), ltb-false (length (l .words)) (l .count * nodeWords) (a .1))
+
+-- ---- what an accepted adoption says
+pub record Adoptable (new old : Lent) (pairs : List ℕ) (ramp : ℕ) : Type 0 where
+  pub new-nodes : new .count ≤ unitLimits .nodes
+  pub old-nodes : old .count ≤ unitLimits .nodes
+  pub new-room : Room (new .count) (new .floats) (new .words)
+  pub old-room : Room (old .count) (old .floats) (old .words)
+  pub even : length pairs % 2 ≡ 0
+  pub new-good : badNodes new ≡ false
+  pub old-good : badNodes old ≡ false
+  pub short : ramp ≤ maxRamp
+
+module _ (new old : Lent) (pairs : List ℕ) (ramp : ℕ) where
+  abbrev answered : Answer
+  answered = adoptionAnswer new old pairs ramp
+
+  pub adoptable : answered ≡ Accepted → Adoptable new old pairs ramp
+  unfolding adoptionAnswer
+  adoptable e =
+      let t = accepted-none (adoptionTests new old pairs ramp) Accepted e .0 in
+      let n = or-none _ _ (t .0) in
+      let a = or-none (shortNodes new) (shortNodes old) (t .1 .0) in
+      let b = or-none (badNodes new) (badNodes old) (t .1 .1 .1 .0) in
+      record {
+        new-nodes = ltb-false _ _ (n .0);
+        old-nodes = ltb-false _ _ (n .1);
+        new-room = enough new (a .0);
+        old-room = enough old (a .1);
+        even = eqb-true _ _ (not-false (eqb (length pairs % 2) 0) (t .1 .1 .0));
+        new-good = b .0;
+        old-good = b .1;
+        short = ltb-false _ _ (t .1 .1 .1 .1 .0);
+      }
+
+  pub accepted-fit : answered ≡ Accepted → Fit new old ramp
+  accepted-fit e =
+      let a = adoptable e in
+      record { new-room = a .new-room; old-room = a .old-room; good = a .new-good; short = a .short }
+
+  -- ---- a refused adoption changes nothing
+  pub floats-refused : {r : Refusal} → answered ≡ Refused r → adoptionFloats new old pairs ramp ≡ new .floats
+  unfolding adoptionFloats
+  floats-refused {r} e = refused-keeps answered (pairsAdopted old ramp pairs new .floats) (new .floats) r e
+
+  pub words-refused : {r : Refusal} → answered ≡ Refused r → adoptionWords new old pairs ramp ≡ new .words
+  unfolding adoptionWords
+  words-refused {r} e = refused-keeps answered (pairsAdopted old ramp pairs new .words) (new .words) r e
+
+  -- ---- an accepted one goes through the pairs
+  pub floats-accepted : answered ≡ Accepted → adoptionFloats new old pairs ramp ≡ pairsAdopted old ramp pairs new .floats
+  unfolding adoptionFloats
+  floats-accepted e = outcome-accepted answered (pairsAdopted old ramp pairs new .floats) (λ _. new .floats) e
+
+  pub words-accepted : answered ≡ Accepted → adoptionWords new old pairs ramp ≡ pairsAdopted old ramp pairs new .words
+  unfolding adoptionWords
+  words-accepted e = outcome-accepted answered (pairsAdopted old ramp pairs new .words) (λ _. new .words) e

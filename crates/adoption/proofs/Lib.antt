@@ -1,0 +1,6 @@
+-- Laws that belong to no one function, for the crates above too.
+
+-- what an adoption's answer says, and what the call leaves by it
+pub mod Answers
+-- one pair, and the list of pairs turn by turn
+pub mod Pairs

@@ -1,0 +1,190 @@
+-- One pair of an adoption, skipped or not, what the tests said and it keeps, and the list of pairs turn by turn. Assumes nothing.
+use mathlib.Core.Path.{_≡_, refl, sym, ap, _∙_}
+use mathlib.Core.Bool.{Bool, true, false, not, _||_}
+use mathlib.Core.List.{List, [], _∷_}
+use Prim.Native.Nat.{ℕ, suc, _+_, _*_, _<_, _≤_}
+use native.Mathlib.Nat.{not-suc-le-zero, le-of-suc-le-suc}
+use native.Mathlib.Omega.{arith}
+use lib.ListN.{length, getD, drop, length-drop}
+use lib.Seq.{drop-cons}
+use lib.Ieee.{Float}
+use lib.Dec.{leb, eqb}
+use borrow.Author.Tests.{le-leb, lt-leb, leb-false, eqb-true, eq-eqb, ne-eqb, not-false}
+use Rattle.node.specs.declared.Node.{Node}
+use Rattle.node.specs.Nodes.{Full, changed}
+use Rattle.node.specs.Areas.{Room, lenAt, nodeAt, storedFloats, storedWords, InRange}
+use Rattle.node.proofs.Kept.{full-set, full-load}
+use Rattle.node.proofs.Areas.{length-stored-floats, length-stored-words}
+use Rattle.node.proofs.Bad.{none-bad-at, none-bad-stored, in-range-set}
+use Rattle.plan.proofs.Bools.{or-none}
+use Rattle.adoption.specs.Adoption.{Lent, lent, skipped, adopted, adoptedAt, stored, pairAdopted, pairsAdopted}
+use Rattle.adoption.specs.Fits.{Fit}
+
+pub lent-same : (l : Lent) {count : ℕ} {floats : List Float} {words : List ℕ} → count ≡ l .count → floats ≡ l .floats → words ≡ l .words
+    → lent count floats words ≡ l
+lent-same l p q r = λ i. record { count = p i; floats = q i; words = r i }
+
+-- ---- one pair
+
+-- not skipped
+pub record Taken (new old : Lent) (n o : ℕ) : Type 0 where
+  pub here : n < new .count
+  pub there : o < old .count
+  pub lens : lenAt (new .words) n ≡ lenAt (old .words) o
+
+module _ (new old : Lent) (n o : ℕ) where
+  pub skip-new : new .count ≤ n → skipped new old n o ≡ true
+  skip-new h = rw (le-leb (new .count) n h)
+
+  pub skip-old : n < new .count → old .count ≤ o → skipped new old n o ≡ true
+  skip-old h k = rw (lt-leb (new .count) n h, le-leb (old .count) o k)
+
+  pub skip-len : n < new .count → o < old .count → (lenAt (new .words) n ≡ lenAt (old .words) o → ⊥) → skipped new old n o ≡ true
+  skip-len h k e = rw (lt-leb (new .count) n h, lt-leb (old .count) o k, ne-eqb (lenAt (new .words) n) (lenAt (old .words) o) e)
+
+  pub taken-not : Taken new old n o → skipped new old n o ≡ false
+  taken-not t = rw (lt-leb (new .count) n (t .here), lt-leb (old .count) o (t .there), eq-eqb (lenAt (new .words) n) (lenAt (old .words) o) (t .lens))
+
+  pub not-taken : skipped new old n o ≡ false → Taken new old n o
+  not-taken e =
+      let a = or-none (leb (new .count) n || leb (old .count) o) (not (eqb (lenAt (new .words) n) (lenAt (old .words) o))) e in
+      let b = or-none (leb (new .count) n) (leb (old .count) o) (a .0) in
+      record {
+        here = leb-false (new .count) n (b .0);
+        there = leb-false (old .count) o (b .1);
+        lens = eqb-true _ _ (not-false (eqb (lenAt (new .words) n) (lenAt (old .words) o)) (a .1));
+      }
+
+  module _ (ramp : ℕ) where
+    pub pair-skipped : skipped new old n o ≡ true → pairAdopted old ramp n o new ≡ new
+    unfolding pairAdopted
+    pair-skipped e = rw e
+
+    pub pair-taken : Taken new old n o → pairAdopted old ramp n o new ≡ stored new n (adoptedAt new old ramp n o)
+    unfolding pairAdopted
+    pair-taken t = rw (taken-not t)
+
+    -- the areas that the code leaves where it skips the pair
+    pub areas-skipped : skipped new old n o ≡ true
+        → (new .floats ≡ pairAdopted old ramp n o new .floats) × (new .words ≡ pairAdopted old ramp n o new .words)
+    areas-skipped e = let p = sym (pair-skipped e) in (ap (λ (l : Lent). l .floats) p, ap (λ (l : Lent). l .words) p)
+
+    -- and where it stores the pair's node, made from the two that it loaded
+    pub areas-taken : Taken new old n o → {a b node : Node} → a ≡ nodeAt (new .floats) (new .words) n → b ≡ nodeAt (old .floats) (old .words) o
+        → node ≡ adopted a b ramp
+        → (storedFloats (new .floats) n node ≡ pairAdopted old ramp n o new .floats) × (storedWords (new .words) n node ≡ pairAdopted old ramp n o new .words)
+    areas-taken t p q e =
+        let z : _ ≡ adoptedAt new old ramp n o = e ∙ rw (p, q) in
+        let p = ap (stored new n) z ∙ sym (pair-taken t) in
+        (ap (λ (l : Lent). l .floats) p, ap (λ (l : Lent). l .words) p)
+
+    -- what holds of the new plan's nodes, and of them with the pair's node stored, holds after the pair
+    pub of-pair : (P : Lent → Type 0) → P new → (Taken new old n o → P (stored new n (adoptedAt new old ramp n o))) → P (pairAdopted old ramp n o new)
+    of-pair P p q = go (skipped new old n o) refl
+      where
+        go : (b : Bool) → skipped new old n o ≡ b → P (pairAdopted old ramp n o new)
+        go true e = rw (pair-skipped e) p
+        go false e = rw (pair-taken (not-taken e)) (q (not-taken e))
+
+    pub pair-count : pairAdopted old ramp n o new .count ≡ new .count
+    pair-count = of-pair (λ (l : Lent). l .count ≡ new .count) refl (λ _. refl)
+
+    pub pair-floats : length (pairAdopted old ramp n o new .floats) ≡ length (new .floats)
+    pair-floats = of-pair (λ (l : Lent). length (l .floats) ≡ length (new .floats)) refl (λ _. length-stored-floats (new .floats) n _)
+
+    pub pair-words : length (pairAdopted old ramp n o new .words) ≡ length (new .words)
+    pair-words = of-pair (λ (l : Lent). length (l .words) ≡ length (new .words)) refl (λ _. length-stored-words (new .words) n _)
+
+-- ---- the node of a pair that is not skipped
+module _ {new old : Lent} {ramp n o : ℕ} (f : Fit new old ramp) (t : Taken new old n o) where
+  pub new-room : Room (n + 1) (new .floats) (new .words)
+  new-room = let h = t .here in let r = f .new-room in (omega (arith, r .0), omega (arith, r .1))
+
+  pub old-room : Room (o + 1) (old .floats) (old .words)
+  old-room = let h = t .there in let r = f .old-room in (omega (arith, r .0), omega (arith, r .1))
+
+  pub new-good : InRange (nodeAt (new .floats) (new .words) n)
+  new-good = none-bad-at (new .words) (new .count) (f .good) (new .floats) n (t .here)
+
+  -- the new node with the old cur
+  abbrev pub before : Node
+  before =
+      let node = nodeAt (new .floats) (new .words) n in
+      changed node (nodeAt (old .floats) (old .words) o .cur) (node .target) (node .step) (node .left)
+
+  pub adopted-full : Full (adoptedAt new old ramp n o)
+  adopted-full =
+      let a = full-load (new .floats) (new .words) n (new-room .0) in
+      let b = full-load (old .floats) (old .words) o (old-room .0) in
+      full-set before (nodeAt (new .floats) (new .words) n .target) ramp (record { cur = b .cur; target = a .target; step = a .step })
+
+  pub adopted-good : InRange (adoptedAt new old ramp n o)
+  adopted-good =
+      in-range-set before (nodeAt (new .floats) (new .words) n .target) ramp (record { len = new-good .len; left = new-good .left }) (f .short)
+
+  stored-fit : Fit (stored new n (adoptedAt new old ramp n o)) old ramp
+  stored-fit =
+      let node = adoptedAt new old ramp n o in
+      let r = f .new-room in
+      record {
+        new-room = (omega (arith, r .0, length-stored-floats (new .floats) n node), omega (arith, r .1, length-stored-words (new .words) n node));
+        old-room = f .old-room;
+        good = none-bad-stored (new .words) n node (new .count) (new-room .1) adopted-good (f .good);
+        short = f .short;
+      }
+
+pub pair-fit : {new old : Lent} {ramp : ℕ} (n o : ℕ) → Fit new old ramp → Fit (pairAdopted old ramp n o new) old ramp
+pair-fit {new} {old} {ramp} n o f = of-pair new old n o ramp (λ (l : Lent). Fit l old ramp) f (λ t. stored-fit f t)
+
+-- ---- the list of pairs
+module _ (old : Lent) (ramp : ℕ) where
+  pub pairs-none : (pairs : List ℕ) (new : Lent) → length pairs ≤ 1 → pairsAdopted old ramp pairs new ≡ new
+  unfolding pairsAdopted
+  pairs-none [] new h = refl
+  pairs-none (n ∷ []) new h = refl
+  pairs-none (n ∷ o ∷ pairs) new h = absurd (not-suc-le-zero (le-of-suc-le-suc h))
+
+  pub pairs-more : (pairs : List ℕ) (i : ℕ) (new : Lent) → i + 1 < length pairs
+      → pairsAdopted old ramp (drop i pairs) new ≡ pairsAdopted old ramp (drop (i + 2) pairs) (pairAdopted old ramp (getD pairs i 0) (getD pairs (i + 1) 0) new)
+  unfolding pairsAdopted
+  pairs-more pairs i new h =
+      let a : drop i pairs ≡ getD pairs i 0 ∷ drop (suc i) pairs = drop-cons pairs i 0 (omega arith) in
+      let b : drop (suc i) pairs ≡ getD pairs (suc i) 0 ∷ drop (suc (suc i)) pairs = drop-cons pairs (suc i) 0 (omega arith) in
+      let p : suc i ≡ i + 1 = omega arith in
+      let q : suc (suc i) ≡ i + 2 = omega arith in
+      ap (λ (l : List ℕ). pairsAdopted old ramp l new) (a ∙ ap (λ (l : List ℕ). getD pairs i 0 ∷ l) b)
+      ∙ ap (λ (j : ℕ). pairsAdopted old ramp (drop (suc (suc i)) pairs) (pairAdopted old ramp (getD pairs i 0) (getD pairs j 0) new)) p
+      ∙ ap (λ (j : ℕ). pairsAdopted old ramp (drop j pairs) (pairAdopted old ramp (getD pairs i 0) (getD pairs (i + 1) 0) new)) q
+
+-- what holds between two pairs: `new` is what the first k pairs made of `start`
+pub record Going (start old : Lent) (pairs : List ℕ) (ramp k : ℕ) (new : Lent) : Type 0 where
+  pub fit : Fit new old ramp
+  pub floats : length (new .floats) ≡ length (start .floats)
+  pub words : length (new .words) ≡ length (start .words)
+  pub so : pairsAdopted old ramp (drop (2 * k) pairs) new ≡ pairsAdopted old ramp pairs start
+
+pub going-starts : {start old : Lent} (pairs : List ℕ) {ramp : ℕ} → Fit start old ramp → Going start old pairs ramp 0 start
+going-starts pairs f = record { fit = f; floats = refl; words = refl; so = refl }
+
+-- one more pair, whose areas the code made
+pub going-on : (start old : Lent) (pairs : List ℕ) (ramp : ℕ) {k : ℕ} {new : Lent} → Going start old pairs ramp k new → 2 * k + 1 < length pairs
+    → {floats : List Float} {words : List ℕ}
+    → (let after = pairAdopted old ramp (getD pairs (2 * k) 0) (getD pairs (2 * k + 1) 0) new in floats ≡ after .floats → words ≡ after .words
+    → Going start old pairs ramp (k + 1) (lent (new .count) floats words))
+going-on start old pairs ramp {k} {new} g h p q =
+    let n = getD pairs (2 * k) 0 in
+    let o = getD pairs (2 * k + 1) 0 in
+    let next : 2 * (k + 1) ≡ 2 * k + 2 = omega arith in
+    rw (lent-same (pairAdopted old ramp n o new) (sym (pair-count new old n o ramp)) p q)
+    (record {
+      fit = pair-fit n o (g .fit);
+      floats = pair-floats new old n o ramp ∙ g .floats;
+      words = pair-words new old n o ramp ∙ g .words;
+      so = ap (λ (j : ℕ). pairsAdopted old ramp (drop j pairs) (pairAdopted old ramp n o new)) next ∙ sym (pairs-more old ramp pairs (2 * k) new h) ∙ g .so;
+    })
+
+pub going-ends : {start old : Lent} {pairs : List ℕ} {ramp k : ℕ} {new : Lent} → Going start old pairs ramp k new → length pairs ≤ 2 * k + 1
+    → new ≡ pairsAdopted old ramp pairs start
+going-ends {start} {old} {pairs} {ramp} {k} {new} g h =
+    let e : length (drop (2 * k) pairs) ≤ 1 = rw length-drop (omega arith) in
+    sym (pairs-none old ramp (drop (2 * k) pairs) new e) ∙ g .so

@@ -1,0 +1,116 @@
+-- `adoption::adopt_pair` meets its contract. Assumes nothing.
+use mathlib.Core.Path.{_∙_}
+use Rattle.adoption.specs.Adoption.{Lent, lent}
+use Rattle.adoption.proofs.Pairs.{Taken, skip-new, skip-old, skip-len, new-room, new-good, areas-skipped, areas-taken}
+use borrow.Author.Needs.{needs}
+use Rattle.adoption.proofs.adopt_pair.Statement.{statement}
+use Rattle.adoption.proofs.adopt_pair.Tie as tie
+
+-- the lent nodes
+abbrev new : tie.Start → Lent
+new s = lent (s .args .nodes) (s .args .node-floats .now) (s .args .node-words .now)
+
+abbrev old : tie.Start → Lent
+old s = lent (s .args .old-nodes) (s .args .old-floats .now) (s .args .old-words .now)
+
+-- the pair is not skipped
+abbrev start : tie.Else3 → tie.Start
+start c = c .before .before .before .before .before .before .before .before .before
+
+taken : (c : tie.Else3) → (let s = start c in Taken (new s) (old s) (s .args .n) (s .args .o))
+taken c = record { here = c .before .before .before .before .if1 .left; there = c .before .before .before .if2 .left; lens = c .if3 .left }
+
+returns : tie.Need-returns
+returns c =
+    let s = c .before .before .before .before .before in
+    areas-skipped (new s) (old s) (s .args .n) (s .args .o) (s .args .ramp) (skip-new (new s) (old s) _ _ (c .if1 .taken))
+
+returns-2 : tie.Need-returns-2
+returns-2 c =
+    let s = c .before .before .before .before .before .before in
+    areas-skipped (new s) (old s) (s .args .n) (s .args .o) (s .args .ramp) (skip-old (new s) (old s) _ _ (c .before .if1 .left) (c .if2 .taken))
+
+mul-if3 : tie.Need-mul-if3
+mul-if3 c = search needs
+
+add-if3 : tie.Need-add-if3
+add-if3 c = search needs
+
+mul-if3-2 : tie.Need-mul-if3-2
+mul-if3-2 c = search needs
+
+slice-read-if3 : tie.Need-slice-read-if3
+slice-read-if3 c = search needs
+
+mul-if3-3 : tie.Need-mul-if3-3
+mul-if3-3 c = search needs
+
+add-if3-2 : tie.Need-add-if3-2
+add-if3-2 c = search needs
+
+mul-if3-4 : tie.Need-mul-if3-4
+mul-if3-4 c = search needs
+
+shared-slice-read-if3 : tie.Need-shared-slice-read-if3
+shared-slice-read-if3 c = search needs
+
+returns-3 : tie.Need-returns-3
+returns-3 c =
+    let s = c .before .before .before .before .before .before .before .before .before in
+    areas-skipped (new s) (old s) (s .args .n) (s .args .o) (s .args .ramp) (skip-len (new s) (old s) _ _ (c .before .before .before .before .if1 .left) (c .before .before .before .if2 .left) (c .if3 .taken))
+
+load-requires : tie.Need-load-requires
+load-requires c κs = search needs
+
+load-requires-2 : tie.Need-load-requires-2
+load-requires-2 c κs = search needs
+
+slice-aggregate-set : tie.Need-slice-aggregate-set
+slice-aggregate-set c = search needs
+
+set-requires : tie.Need-set-requires
+set-requires c κs =
+    let e = c .before .before .before .before .before .before .before in
+    let s = start e in
+    (rw (c .before .before .load2 .ensures) (new-good (s .pre) (taken e) .len), s .pre .short)
+
+store-requires : tie.Need-store-requires
+store-requires c κs = let e = c .before .before .before .before .before .before .before .before .before .before in new-room (start e .pre) (taken e)
+
+same-length : tie.Need-same-length
+same-length c = search needs
+
+same-length-2 : tie.Need-same-length-2
+same-length-2 c = search needs
+
+returns-4 : tie.Need-returns-4
+returns-4 c =
+    let e = c .before .before .before .before .before .before .before .before .before .before .before .before .before .before .before in
+    let s = start e in
+    let k = c .before .before .before .before .store .ensures in
+    let z = areas-taken (new s) (old s) (s .args .n) (s .args .o) (s .args .ramp) (taken e) (c .before .before .before .before .before .before .before .before .before .before .load2 .ensures) (c .before .before .before .before .before .before .before .before .before .before .before .before .before .before .load .ensures) (c .before .before .before .before .before .before .before .set .ensures) in
+    (k .0 ∙ z .0, k .1 ∙ z .1)
+
+pub adopt-pair-spec : {M : Type 1} → statement M
+adopt-pair-spec =
+    tie.close
+    (tie.spec
+    returns
+    returns-2
+    mul-if3
+    add-if3
+    mul-if3-2
+    slice-read-if3
+    mul-if3-3
+    add-if3-2
+    mul-if3-4
+    shared-slice-read-if3
+    returns-3
+    load-requires
+    load-requires-2
+    slice-aggregate-set
+    set-requires
+    store-requires
+    same-length
+    same-length-2
+    returns-4)

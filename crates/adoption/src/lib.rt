@@ -1,0 +1,153 @@
+// Old nodes into a new plan. Ports `Plan::adopt` of src/engine/plan.rs, nodes only. The call is total, and a refused one changes nothing.
+use node::Node;
+use plan::Plan;
+use refusal::Answer;
+use refusal::Refusal;
+ghost use mathlib.Core.Path.{_≡_};
+ghost use Rattle.adoption.specs.Adoption.{lent, shortNodes, adoptionAnswer, pairAdopted, pairsAdopted, adoptionFloats, adoptionWords};
+ghost use Rattle.adoption.specs.Fits.{Fit};
+
+// Number 2 of one plan's nodes.
+fn short_nodes(count: usize, floats: &[f32], words: &[u32]) -> bool
+    ensures { λ r. ⌜ r ≡ shortNodes (lent count (now (floats .entry)) (now (words .entry))) ⌝ }
+{
+    plan::shorter(floats.len(), count, Node::FLOATS)
+        | plan::shorter(words.len(), count, Node::WORDS)
+}
+
+// The tests, in their order. It writes nothing.
+fn adoption_answer(
+    nodes: usize,
+    node_floats: &[f32],
+    node_words: &[u32],
+    old_nodes: usize,
+    old_floats: &[f32],
+    old_words: &[u32],
+    pairs: &[u32],
+    ramp: u32,
+) -> Answer
+    ensures { λ r. ⌜ r ≡ adoptionAnswer (lent nodes (now («node_floats» .entry)) (now («node_words» .entry))) (lent «old_nodes» (now («old_floats» .entry)) (now («old_words» .entry))) (now (pairs .entry)) ramp ⌝ }
+{
+    if (nodes > Plan::MAX_NODES) | (old_nodes > Plan::MAX_NODES) {
+        return Answer::Refused(Refusal::of(Refusal::OVER_LIMIT));
+    }
+    if short_nodes(nodes, node_floats, node_words) | short_nodes(old_nodes, old_floats, old_words) {
+        return Answer::Refused(Refusal::of(Refusal::SHORT_AREA));
+    }
+    if pairs.len() % 2 != 0 {
+        return Answer::Refused(Refusal::of(Refusal::ODD_LIST));
+    }
+    if node::any_bad(node_words, nodes) | node::any_bad(old_words, old_nodes) {
+        return Answer::Refused(Refusal::of(Refusal::BAD_NODE));
+    }
+    if ramp > Node::MAX_RAMP {
+        return Answer::Refused(Refusal::of(Refusal::LONG_RAMP));
+    }
+    Answer::Accepted
+}
+
+// One pair: node n takes the cur of old node o. Requires what the tests leave.
+fn adopt_pair(
+    nodes: usize,
+    node_floats: &mut [f32],
+    node_words: &mut [u32],
+    old_nodes: usize,
+    old_floats: &[f32],
+    old_words: &[u32],
+    n: usize,
+    o: usize,
+    ramp: u32,
+)
+    requires { ⌜ Fit (lent nodes (now «node_floats») (now «node_words»)) (lent «old_nodes» (now «old_floats») (now «old_words»)) ramp ⌝ }
+    ensures floats { λ _. ⌜ now («node_floats» .exit) ≡ pairAdopted (lent «old_nodes» (now («old_floats» .entry)) (now («old_words» .entry))) ramp n o (lent nodes (now («node_floats» .entry)) (now («node_words» .entry))) .floats ⌝ }
+    ensures words { λ _. ⌜ now («node_words» .exit) ≡ pairAdopted (lent «old_nodes» (now («old_floats» .entry)) (now («old_words» .entry))) ramp n o (lent nodes (now («node_floats» .entry)) (now («node_words» .entry))) .words ⌝ }
+{
+    if n >= nodes {
+        return;
+    }
+    if o >= old_nodes {
+        return;
+    }
+    if node_words[n * Node::WORDS + 1] != old_words[o * Node::WORDS + 1] {
+        return;
+    }
+    let old = node::load(old_floats, old_words, o);
+    let cur = old.cur;
+    let mut node = node::load(&node_floats[..], &node_words[..], n);
+    node.cur = cur;
+    let target = node.target;
+    node::store(node.set(&target[..], ramp), node_floats, node_words, n);
+}
+
+// The pairs, in order. Requires what the tests leave.
+fn adopt_pairs(
+    nodes: usize,
+    node_floats: &mut [f32],
+    node_words: &mut [u32],
+    old_nodes: usize,
+    old_floats: &[f32],
+    old_words: &[u32],
+    pairs: &[u32],
+    ramp: u32,
+)
+    requires { ⌜ Fit (lent nodes (now «node_floats») (now «node_words»)) (lent «old_nodes» (now «old_floats») (now «old_words»)) ramp ⌝ }
+    ensures floats { λ _. ⌜ now («node_floats» .exit) ≡ pairsAdopted (lent «old_nodes» (now («old_floats» .entry)) (now («old_words» .entry))) ramp (now (pairs .entry)) (lent nodes (now («node_floats» .entry)) (now («node_words» .entry))) .floats ⌝ }
+    ensures words { λ _. ⌜ now («node_words» .exit) ≡ pairsAdopted (lent «old_nodes» (now («old_floats» .entry)) (now («old_words» .entry))) ramp (now (pairs .entry)) (lent nodes (now («node_floats» .entry)) (now («node_words» .entry))) .words ⌝ }
+{
+    for k in 0..pairs.len() / 2 {
+        let n = pairs[2 * k] as usize;
+        let o = pairs[2 * k + 1] as usize;
+        adopt_pair(
+            nodes,
+            node_floats,
+            node_words,
+            old_nodes,
+            old_floats,
+            old_words,
+            n,
+            o,
+            ramp,
+        );
+    }
+}
+
+// Each new node of a pair (new, old) in `pairs` takes the cur of its old node and ramps to its own target again, over `ramp` samples.
+pub fn adopt(
+    nodes: usize,
+    node_floats: &mut [f32],
+    node_words: &mut [u32],
+    old_nodes: usize,
+    old_floats: &[f32],
+    old_words: &[u32],
+    pairs: &[u32],
+    ramp: u32,
+) -> Answer
+    ensures answer { λ r. ⌜ r ≡ adoptionAnswer (lent nodes (now («node_floats» .entry)) (now («node_words» .entry))) (lent «old_nodes» (now («old_floats» .entry)) (now («old_words» .entry))) (now (pairs .entry)) ramp ⌝ }
+    ensures floats { λ _. ⌜ now («node_floats» .exit) ≡ adoptionFloats (lent nodes (now («node_floats» .entry)) (now («node_words» .entry))) (lent «old_nodes» (now («old_floats» .entry)) (now («old_words» .entry))) (now (pairs .entry)) ramp ⌝ }
+    ensures words { λ _. ⌜ now («node_words» .exit) ≡ adoptionWords (lent nodes (now («node_floats» .entry)) (now («node_words» .entry))) (lent «old_nodes» (now («old_floats» .entry)) (now («old_words» .entry))) (now (pairs .entry)) ramp ⌝ }
+{
+    let answer = adoption_answer(
+        nodes,
+        &node_floats[..],
+        &node_words[..],
+        old_nodes,
+        old_floats,
+        old_words,
+        pairs,
+        ramp,
+    );
+    if let Answer::Refused(r) = answer {
+        return Answer::Refused(r);
+    }
+    adopt_pairs(
+        nodes,
+        node_floats,
+        node_words,
+        old_nodes,
+        old_floats,
+        old_words,
+        pairs,
+        ramp,
+    );
+    Answer::Accepted
+}
