@@ -4,3 +4,5 @@
 pub mod Answers
 -- one pair, and the list of pairs turn by turn
 pub mod Pairs
+-- what an adoption keeps, and which nodes it changes
+pub mod Kept
