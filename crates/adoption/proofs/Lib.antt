@@ -6,3 +6,5 @@ pub mod Answers
 pub mod Pairs
 -- what an adoption keeps, and which nodes it changes
 pub mod Kept
+-- adoptions by computation
+pub mod Examples
