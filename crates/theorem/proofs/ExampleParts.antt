@@ -18,7 +18,7 @@ use Rattle.node.specs.Areas.{nodeAt, floatsOf, wordsOf, badNode, someBad}
 use Rattle.plan.specs.Words.{patchMap, gainMap, matrixMap, clearMap, sendMap, outputMap, stepOf, decoded, decodedFrom}
 use Rattle.plan.specs.Areas.{Areas, areas}
 use Rattle.plan.specs.Check.{someFrom, idAmong, idTwice, outside, has, meet, shares, stepsTests, checked}
-use Rattle.plan.proofs.Bools.{or-none}
+use Rattle.plan.proofs.Bools.{or-none, or-some}
 use Rattle.plan.proofs.Scans.{Counted, counted-at}
 use Rattle.mix.specs.Samples.{sampled}
 use Rattle.mix.specs.Mix.{added, weighted, sent, columns, weighs}
@@ -35,7 +35,6 @@ use Rattle.trace.specs.Calls.{cleanAnswer}
 use Rattle.theorem.specs.Builds.{Build, Finished, acceptedCalls}
 use Rattle.theorem.specs.Journal.{Entry, setting, ran, Absent, Whole, carried}
 use Rattle.theorem.specs.Statement.{Lists, a, b, firstJournal, secondJournal, listBehind, CarriesEqual, ListedCarryEqual}
-use Rattle.theorem.proofs.Bools.{or-cases}
 
 -- What a computation of builds, traces and journals goes through: `unfolding definitions` opens all of these and what they open.
 unfoldable pub definitions : Unit {0}
@@ -188,7 +187,7 @@ module _ (l : Lists) {es fs : List Entry} (j : Journals l es fs) where
   unfolding has
   one-listed s i m e p q first second all k c h =
       ⊎-elim (λ t. subst (λ (n : ℕ). CarriesEqual l n c) (eqb-true i k t) (rw (j .first, j .second) (carries (ltb c m) refl)))
-      (λ t. absurd (false≢true t)) (or-cases (eqb i k) false (ap (λ (list : List ℕ). has list k) (sym e) ∙ h))
+      (λ t. absurd (false≢true t)) (or-some (eqb i k) false (ap (λ (list : List ℕ). has list k) (sym e) ∙ h))
     where
       carries : (r : Bool) → ltb c m ≡ r → Carries i c
       carries true t = below (Carries i) m all c (ltb-true c m t)
