@@ -8,7 +8,6 @@ use native.Mathlib.Nat.{add-zero}
 use native.Mathlib.Decide.{ℕ-discrete}
 use native.Mathlib.Omega.{arith}
 use lib.ListN.{length, drop}
-use lib.Ieee.{Float}
 use lib.Dec.{eqb}
 use borrow.Author.Tests.{eqb-true, eq-eqb}
 use Rattle.refusal.specs.declared.Refusal.{Refusal}
@@ -18,14 +17,13 @@ use Rattle.lists.proofs.Stores.{drop-sets}
 use Rattle.node.specs.Sizes.{nodeFloats, nodeWords}
 use Rattle.node.specs.declared.Node.{Node}
 use Rattle.node.specs.Areas.{idAt, lenAt, leftAt, nodeAt, floatsOf, wordsOf, storedWords}
-use Rattle.node.proofs.Kept.{id-set, len-set}
-use Rattle.node.proofs.Left.{left-set}
 use Rattle.node.proofs.Areas.{length-floats, length-stored-floats, length-stored-words, id-stored, len-stored, left-stored, word-other, stored-other}
 use Rattle.plan.proofs.Bools.{or-none}
 use Rattle.adoption.specs.Adoption.{Lent, lent, badNodes, skipped, adoptedAt, stored, pairAdopted, pairsAdopted, adoptionAnswer, adoptionFloats, adoptionWords}
 use Rattle.adoption.specs.Fits.{Fit}
+use Rattle.adoption.proofs.Adopted.{adopted-id, adopted-len, adopted-left}
 use Rattle.adoption.proofs.Answers.{accepted-fit, floats-refused, words-refused, floats-accepted, words-accepted}
-use Rattle.adoption.proofs.Pairs.{lent-same, Taken, taken-not, not-taken, pair-taken, of-pair, pair-fit, new-room, adopted-full, before}
+use Rattle.adoption.proofs.Pairs.{lent-same, Taken, taken-not, not-taken, pair-taken, of-pair, pair-fit, new-room, adopted-full-at}
 
 -- ---- what stays
 
@@ -59,8 +57,11 @@ module _ {new old : Lent} {ramp n o : ℕ} (f : Fit new old ramp) (t : Taken new
   abbrev node : Node
   node = adoptedAt new old ramp n o
 
-  abbrev target : List Float
-  target = nodeAt (new .floats) (new .words) n .target
+  abbrev here : Node
+  here = nodeAt (new .floats) (new .words) n
+
+  abbrev there : Node
+  there = nodeAt (old .floats) (old .words) o
 
   stored-kept : Kept new (stored new n node)
   unfolding nodeAt wordsOf
@@ -72,7 +73,7 @@ module _ {new old : Lent} {ramp n o : ℕ} (f : Fit new old ramp) (t : Taken new
         words = length-stored-words (new .words) n node;
         ids = ids;
         lens = lens;
-        rest-floats = drop-sets (new .count * nodeFloats) (new .floats) (n * nodeFloats) (floatsOf node) (rw (length-floats node (adopted-full f t)) (omega arith));
+        rest-floats = drop-sets (new .count * nodeFloats) (new .floats) (n * nodeFloats) (floatsOf node) (rw (length-floats node (adopted-full-at f t)) (omega arith));
         rest-words = drop-sets (new .count * nodeWords) (new .words) (n * nodeWords) (wordsOf node) (omega arith);
       }
     where
@@ -80,24 +81,24 @@ module _ {new old : Lent} {ramp n o : ℕ} (f : Fit new old ramp) (t : Taken new
       ids i = go (ℕ-discrete i n)
         where
           go : Dec (i ≡ n) → idAt (storedWords (new .words) n node) i ≡ idAt (new .words) i
-          go (yes e) = rw e (id-stored (new .words) n node (new-room f t .1) ∙ id-set (before f t) target ramp)
+          go (yes e) = rw e (id-stored (new .words) n node (new-room f t .1) ∙ adopted-id here there ramp)
           go (no e) = rw add-zero at (word-other (new .words) n node i 0 e (omega arith))
 
       lens : (i : ℕ) → lenAt (storedWords (new .words) n node) i ≡ lenAt (new .words) i
       lens i = go (ℕ-discrete i n)
         where
           go : Dec (i ≡ n) → lenAt (storedWords (new .words) n node) i ≡ lenAt (new .words) i
-          go (yes e) = rw e (len-stored (new .words) n node (new-room f t .1) ∙ len-set (before f t) target ramp)
+          go (yes e) = rw e (len-stored (new .words) n node (new-room f t .1) ∙ adopted-len here there ramp)
           go (no e) = word-other (new .words) n node i 1 e (omega arith)
 
   -- the ramp is left to its node
   stored-left : leftAt (storedWords (new .words) n node) n ≡ ramp
-  stored-left = left-stored (new .words) n node (new-room f t .1) ∙ left-set (before f t) target ramp
+  stored-left = left-stored (new .words) n node (new-room f t .1) ∙ adopted-left here there ramp
 
   -- and another node is as it was
   stored-apart : (i : ℕ) → (i ≡ n → ⊥) → (let after = stored new n node in
       nodeAt (after .floats) (after .words) i ≡ nodeAt (new .floats) (new .words) i)
-  stored-apart i e = stored-other (new .floats) (new .words) n node (adopted-full f t) i e
+  stored-apart i e = stored-other (new .floats) (new .words) n node (adopted-full-at f t) i e
 
 pub pair-kept : {new old : Lent} {ramp : ℕ} (n o : ℕ) → Fit new old ramp → Kept new (pairAdopted old ramp n o new)
 pair-kept {new} {old} {ramp} n o f = of-pair new old n o ramp (Kept new) (kept-self new) (λ t. stored-kept f t)

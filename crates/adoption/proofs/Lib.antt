@@ -2,6 +2,8 @@
 
 -- what an adoption's answer says, and what the call leaves by it
 pub mod Answers
+-- the node that a pair makes
+pub mod Adopted
 -- one pair, and the list of pairs turn by turn
 pub mod Pairs
 -- what an adoption keeps, and which nodes it changes

@@ -11,14 +11,15 @@ use lib.Ieee.{Float}
 use lib.Dec.{leb, eqb}
 use borrow.Author.Tests.{le-leb, lt-leb, leb-false, eqb-true, eq-eqb, ne-eqb, not-false}
 use Rattle.node.specs.declared.Node.{Node}
-use Rattle.node.specs.Nodes.{Full, changed}
+use Rattle.node.specs.Nodes.{Full}
 use Rattle.node.specs.Areas.{Room, lenAt, nodeAt, storedFloats, storedWords, InRange}
-use Rattle.node.proofs.Kept.{full-set, full-load}
+use Rattle.node.proofs.Kept.{full-load}
 use Rattle.node.proofs.Areas.{length-stored-floats, length-stored-words}
-use Rattle.node.proofs.Bad.{none-bad-at, none-bad-stored, in-range-set}
+use Rattle.node.proofs.Bad.{none-bad-at, none-bad-stored}
 use Rattle.plan.proofs.Bools.{or-none}
 use Rattle.adoption.specs.Adoption.{Lent, lent, skipped, adopted, adoptedAt, stored, pairAdopted, pairsAdopted}
 use Rattle.adoption.specs.Fits.{Fit}
+use Rattle.adoption.proofs.Adopted.{adopted-full, adopted-good}
 
 pub lent-same : (l : Lent) {count : ℕ} {floats : List Float} {words : List ℕ} → count ≡ l .count → floats ≡ l .floats → words ≡ l .words
     → lent count floats words ≡ l
@@ -106,21 +107,10 @@ module _ {new old : Lent} {ramp n o : ℕ} (f : Fit new old ramp) (t : Taken new
   pub new-good : InRange (nodeAt (new .floats) (new .words) n)
   new-good = none-bad-at (new .words) (new .count) (f .good) (new .floats) n (t .here)
 
-  -- the new node with the old cur
-  abbrev pub before : Node
-  before =
-      let node = nodeAt (new .floats) (new .words) n in
-      changed node (nodeAt (old .floats) (old .words) o .cur) (node .target) (node .step) (node .left)
-
-  pub adopted-full : Full (adoptedAt new old ramp n o)
-  adopted-full =
-      let a = full-load (new .floats) (new .words) n (new-room .0) in
-      let b = full-load (old .floats) (old .words) o (old-room .0) in
-      full-set before (nodeAt (new .floats) (new .words) n .target) ramp (record { cur = b .cur; target = a .target; step = a .step })
-
-  pub adopted-good : InRange (adoptedAt new old ramp n o)
-  adopted-good =
-      in-range-set before (nodeAt (new .floats) (new .words) n .target) ramp (record { len = new-good .len; left = new-good .left }) (f .short)
+  pub adopted-full-at : Full (adoptedAt new old ramp n o)
+  adopted-full-at =
+      adopted-full (nodeAt (new .floats) (new .words) n) (nodeAt (old .floats) (old .words) o) ramp
+      (full-load (new .floats) (new .words) n (new-room .0)) (full-load (old .floats) (old .words) o (old-room .0))
 
   stored-fit : Fit (stored new n (adoptedAt new old ramp n o)) old ramp
   stored-fit =
@@ -129,7 +119,7 @@ module _ {new old : Lent} {ramp n o : ℕ} (f : Fit new old ramp) (t : Taken new
       record {
         new-room = (omega (arith, r .0, length-stored-floats (new .floats) n node), omega (arith, r .1, length-stored-words (new .words) n node));
         old-room = f .old-room;
-        good = none-bad-stored (new .words) n node (new .count) (new-room .1) adopted-good (f .good);
+        good = none-bad-stored (new .words) n node (new .count) (new-room .1) (adopted-good (nodeAt (new .floats) (new .words) n) (nodeAt (old .floats) (old .words) o) ramp new-good (f .short)) (f .good);
         short = f .short;
       }
 
