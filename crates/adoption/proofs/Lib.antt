@@ -6,7 +6,11 @@ pub mod Answers
 pub mod Adopted
 -- one pair, and the list of pairs turn by turn
 pub mod Pairs
--- what an adoption keeps, and which nodes it changes
+-- what the pairs keep
 pub mod Kept
+-- the nodes that pairs name
+pub mod Named
+-- what an adoption leaves, accepted or refused
+pub mod Adoption
 -- adoptions by computation
 pub mod Examples

@@ -12,12 +12,12 @@ use lib.Dec.{leb, eqb}
 use borrow.Author.Tests.{le-leb, lt-leb, leb-false, eqb-true, eq-eqb, ne-eqb, not-false}
 use Rattle.node.specs.declared.Node.{Node}
 use Rattle.node.specs.Nodes.{Full}
-use Rattle.node.specs.Areas.{Room, lenAt, nodeAt, storedFloats, storedWords, InRange}
+use Rattle.node.specs.Areas.{Room, lenAt, storedFloats, storedWords, InRange}
 use Rattle.node.proofs.Kept.{full-load}
 use Rattle.node.proofs.Areas.{length-stored-floats, length-stored-words}
 use Rattle.node.proofs.Bad.{none-bad-at, none-bad-stored}
 use Rattle.plan.proofs.Bools.{or-none}
-use Rattle.adoption.specs.Adoption.{Lent, lent, skipped, adopted, adoptedAt, stored, pairAdopted, pairsAdopted}
+use Rattle.adoption.specs.Adoption.{Lent, lent, nodeIn, skipped, adopted, adoptedAt, stored, pairAdopted, pairsAdopted}
 use Rattle.adoption.specs.Fits.{Fit}
 use Rattle.adoption.proofs.Adopted.{adopted-full, adopted-good}
 
@@ -71,7 +71,7 @@ module _ (new old : Lent) (n o : ℕ) where
     areas-skipped e = let p = sym (pair-skipped e) in (ap (λ (l : Lent). l .floats) p, ap (λ (l : Lent). l .words) p)
 
     -- and where it stores the pair's node, made from the two that it loaded
-    pub areas-taken : Taken new old n o → {a b node : Node} → a ≡ nodeAt (new .floats) (new .words) n → b ≡ nodeAt (old .floats) (old .words) o
+    pub areas-taken : Taken new old n o → {a b node : Node} → a ≡ nodeIn new n → b ≡ nodeIn old o
         → node ≡ adopted a b ramp
         → (storedFloats (new .floats) n node ≡ pairAdopted old ramp n o new .floats) × (storedWords (new .words) n node ≡ pairAdopted old ramp n o new .words)
     areas-taken t p q e =
@@ -104,12 +104,12 @@ module _ {new old : Lent} {ramp n o : ℕ} (f : Fit new old ramp) (t : Taken new
   pub old-room : Room (o + 1) (old .floats) (old .words)
   old-room = let h = t .there in let r = f .old-room in (omega (arith, r .0), omega (arith, r .1))
 
-  pub new-good : InRange (nodeAt (new .floats) (new .words) n)
+  pub new-good : InRange (nodeIn new n)
   new-good = none-bad-at (new .words) (new .count) (f .good) (new .floats) n (t .here)
 
   pub adopted-full-at : Full (adoptedAt new old ramp n o)
   adopted-full-at =
-      adopted-full (nodeAt (new .floats) (new .words) n) (nodeAt (old .floats) (old .words) o) ramp
+      adopted-full (nodeIn new n) (nodeIn old o) ramp
       (full-load (new .floats) (new .words) n (new-room .0)) (full-load (old .floats) (old .words) o (old-room .0))
 
   stored-fit : Fit (stored new n (adoptedAt new old ramp n o)) old ramp
@@ -119,7 +119,7 @@ module _ {new old : Lent} {ramp n o : ℕ} (f : Fit new old ramp) (t : Taken new
       record {
         new-room = (omega (arith, r .0, length-stored-floats (new .floats) n node), omega (arith, r .1, length-stored-words (new .words) n node));
         old-room = f .old-room;
-        good = none-bad-stored (new .words) n node (new .count) (new-room .1) (adopted-good (nodeAt (new .floats) (new .words) n) (nodeAt (old .floats) (old .words) o) ramp new-good (f .short)) (f .good);
+        good = none-bad-stored (new .words) n node (new .count) (new-room .1) (adopted-good (nodeIn new n) (nodeIn old o) ramp new-good (f .short)) (f .good);
         short = f .short;
       }
 

@@ -25,6 +25,10 @@ pub record Lent : Type 0 where
 abbrev pub lent : ℕ → List Float → List ℕ → Lent
 lent count floats words = record { count = count; floats = floats; words = words }
 
+-- node n of them, from 0
+abbrev pub nodeIn : Lent → ℕ → Node
+nodeIn l n = nodeAt (l .floats) (l .words) n
+
 -- ---- the tests
 
 abbrev pub overNodes : Lent → Bool
@@ -60,7 +64,7 @@ skipped new old n o = leb (new .count) n || leb (old .count) o || not (eqb (lenA
 
 -- node n of the new plan after it took old node o
 abbrev pub adoptedAt : Lent → Lent → ℕ → ℕ → ℕ → Node
-adoptedAt new old ramp n o = adopted (nodeAt (new .floats) (new .words) n) (nodeAt (old .floats) (old .words) o) ramp
+adoptedAt new old ramp n o = adopted (nodeIn new n) (nodeIn old o) ramp
 
 abbrev pub stored : Lent → ℕ → Node → Lent
 stored l n node = lent (l .count) (storedFloats (l .floats) n node) (storedWords (l .words) n node)

@@ -2,10 +2,12 @@
 use mathlib.Core.Path.{_≡_, ap}
 use mathlib.Core.Bool.{false, not, _||_}
 use Prim.Native.Nat.{_%_}
+use native.Mathlib.Omega.{arith}
 use lib.ListN.{length}
 use lib.Dec.{eqb}
 use borrow.Author.Tests.{lt-ltb, le-ltb, eq-eqb, ne-eqb}
 use Rattle.refusal.specs.declared.Answer.the-variants.{Refused}
+use Rattle.node.specs.Areas.{Room}
 use Rattle.plan.proofs.Bools.{or-none}
 use Rattle.adoption.specs.Adoption.{Lent, lent, overNodes, shortNodes, badNodes, adoptionAnswer}
 use Rattle.adoption.proofs.Answers.{or-is, enough}
@@ -32,6 +34,13 @@ start2 c = start1 (c .before .before .before)
 
 not-2 : (c : tie.Else2) → (let s = start2 c in (shortNodes (new s) || shortNodes (old s)) ≡ false)
 not-2 c = or-is (c .before .before .short-nodes .ensures) (c .before .short-nodes2 .ensures) (c .if2 .left)
+
+rooms : (c : tie.Else2) → (let s = start2 c in
+    Room (new s .count) (new s .floats) (new s .words) × Room (old s .count) (old s .floats) (old s .words))
+rooms c =
+    let s = start2 c in
+    let e = or-none (shortNodes (new s)) (shortNodes (old s)) (not-2 c) in
+    (enough (new s) (e .0), enough (old s) (e .1))
 
 not-11 : (c : tie.Else3) → not (eqb (length (start2 (c .before) .args .pairs .now) % 2) 0) ≡ false
 not-11 c = rw (eq-eqb _ _ (c .if3 .left))
@@ -74,10 +83,10 @@ returns-3 c =
     rw (not-5 (e .before .before .before), not-2 e, ne-eqb _ _ (c .before .if3 .taken)) (ap Refused (c .of3 .ensures))
 
 any-bad-requires : tie.Need-any-bad-requires
-any-bad-requires c κs = let s = start2 (c .before) in enough (new s) (or-none (shortNodes (new s)) (shortNodes (old s)) (not-2 (c .before)) .0) .1
+any-bad-requires c κs = let r = rooms (c .before) in omega (arith, r .0 .1, r .1 .1)
 
 any-bad-requires-2 : tie.Need-any-bad-requires-2
-any-bad-requires-2 c κs = let s = start2 (c .before .before) in enough (old s) (or-none (shortNodes (new s)) (shortNodes (old s)) (not-2 (c .before .before)) .1) .1
+any-bad-requires-2 c κs = let r = rooms (c .before .before) in omega (arith, r .0 .1, r .1 .1)
 
 of-requires-4 : tie.Need-of-requires-4
 of-requires-4 c κs = search needs
