@@ -1,16 +1,12 @@
 -- `adoption::adoption_answer` meets its contract. Assumes nothing.
-use mathlib.Core.Path.{_≡_, ap}
-use mathlib.Core.Bool.{false, not, _||_}
-use Prim.Native.Nat.{_%_}
+use mathlib.Core.Path.{_≡_, sym, ap, _∙_}
+use mathlib.Core.Bool.{false, _||_}
 use native.Mathlib.Omega.{arith}
-use lib.ListN.{length}
-use lib.Dec.{eqb}
-use borrow.Author.Tests.{lt-ltb, le-ltb, eq-eqb, ne-eqb}
 use Rattle.refusal.specs.declared.Answer.the-variants.{Refused}
 use Rattle.node.specs.Areas.{Room}
 use Rattle.plan.proofs.Bools.{or-none}
-use Rattle.adoption.specs.Adoption.{Lent, lent, overNodes, shortNodes, badNodes, adoptionAnswer}
-use Rattle.adoption.proofs.Answers.{or-is, enough}
+use Rattle.adoption.specs.Adoption.{Lent, lent, overNodes, shortNodes, badNodes}
+use Rattle.adoption.proofs.Answers.{or-is, enough, by-5, by-2, by-11, by-14, by-10, by-none}
 use borrow.Author.Needs.{needs}
 use Rattle.adoption.proofs.adoption_answer.Statement.{statement}
 use Rattle.adoption.proofs.adoption_answer.Tie as tie
@@ -22,7 +18,7 @@ new s = lent (s .args .nodes) (s .args .node-floats .now) (s .args .node-words .
 abbrev old : tie.Start → Lent
 old s = lent (s .args .old-nodes) (s .args .old-floats .now) (s .args .old-words .now)
 
--- past the tests 5, 2, 11 and 14
+-- past the tests 5, 2 and 14
 abbrev start1 : tie.Else1 → tie.Start
 start1 c = c .before .before .before .before .before .before
 
@@ -42,9 +38,6 @@ rooms c =
     let e = or-none (shortNodes (new s)) (shortNodes (old s)) (not-2 c) in
     (enough (new s) (e .0), enough (old s) (e .1))
 
-not-11 : (c : tie.Else3) → not (eqb (length (start2 (c .before) .args .pairs .now) % 2) 0) ≡ false
-not-11 c = rw (eq-eqb _ _ (c .if3 .left))
-
 abbrev start4 : tie.Else4 → tie.Start
 start4 c = start2 (c .before .before .before .before)
 
@@ -55,8 +48,9 @@ of-requires : tie.Need-of-requires
 of-requires c κs = search needs
 
 returns : tie.Need-returns
-unfolding adoptionAnswer
-returns c = rw (c .before .if1 .taken) (ap Refused (c .of .ensures))
+returns c =
+    let s = c .before .before .before .before .before .before .before in
+    ap Refused (c .of .ensures) ∙ sym (by-5 (new s) (old s) (s .args .pairs .now) (s .args .ramp) (c .before .if1 .taken))
 
 short-nodes-requires : tie.Need-short-nodes-requires
 short-nodes-requires c κs = search needs
@@ -68,19 +62,21 @@ of-requires-2 : tie.Need-of-requires-2
 of-requires-2 c κs = search needs
 
 returns-2 : tie.Need-returns-2
-unfolding adoptionAnswer
 returns-2 c =
-    rw (not-5 (c .before .before .before .before), or-is (c .before .before .before .short-nodes .ensures) (c .before .before .short-nodes2 .ensures) (c .before .if2 .taken))
-    (ap Refused (c .of2 .ensures))
+    let e = c .before .before .before .before in
+    let s = start1 e in
+    let t = or-is (c .before .before .before .short-nodes .ensures) (c .before .before .short-nodes2 .ensures) (c .before .if2 .taken) in
+    ap Refused (c .of2 .ensures) ∙ sym (by-2 (new s) (old s) (s .args .pairs .now) (s .args .ramp) (not-5 e) t)
 
 of-requires-3 : tie.Need-of-requires-3
 of-requires-3 c κs = search needs
 
 returns-3 : tie.Need-returns-3
-unfolding adoptionAnswer
 returns-3 c =
     let e = c .before .before in
-    rw (not-5 (e .before .before .before), not-2 e, ne-eqb _ _ (c .before .if3 .taken)) (ap Refused (c .of3 .ensures))
+    let s = start2 e in
+    ap Refused (c .of3 .ensures)
+    ∙ sym (by-11 (new s) (old s) (s .args .pairs .now) (s .args .ramp) (not-5 (e .before .before .before)) (not-2 e) (c .before .if3 .taken))
 
 any-bad-requires : tie.Need-any-bad-requires
 any-bad-requires c κs = let r = rooms (c .before) in omega (arith, r .0 .1, r .1 .1)
@@ -92,28 +88,33 @@ of-requires-4 : tie.Need-of-requires-4
 of-requires-4 c κs = search needs
 
 returns-4 : tie.Need-returns-4
-unfolding adoptionAnswer
 returns-4 c =
-    let e = c .before .before .before .before in
-    rw (not-5 (e .before .before .before .before), not-2 (e .before), not-11 e, or-is (c .before .before .before .any-bad .ensures) (c .before .before .any-bad2 .ensures) (c .before .if4 .taken))
-    (ap Refused (c .of4 .ensures))
+    let o = c .before .before .before .before in
+    let e = o .before in
+    let s = start2 e in
+    let t = or-is (c .before .before .before .any-bad .ensures) (c .before .before .any-bad2 .ensures) (c .before .if4 .taken) in
+    ap Refused (c .of4 .ensures)
+    ∙ sym (by-14 (new s) (old s) (s .args .pairs .now) (s .args .ramp) (not-5 (e .before .before .before)) (not-2 e) (o .if3 .left) t)
 
 of-requires-5 : tie.Need-of-requires-5
 of-requires-5 c κs = search needs
 
 returns-5 : tie.Need-returns-5
-unfolding adoptionAnswer
 returns-5 c =
-    let f = c .before .before in
-    let e = f .before .before .before in
-    rw (not-5 (e .before .before .before .before), not-2 (e .before), not-11 e, not-14 f, lt-ltb _ _ (c .before .if5 .taken)) (ap Refused (c .of5 .ensures))
+    let b = c .before .before in
+    let o = b .before .before .before in
+    let e = o .before in
+    let s = start2 e in
+    ap Refused (c .of5 .ensures)
+    ∙ sym (by-10 (new s) (old s) (s .args .pairs .now) (s .args .ramp) (not-5 (e .before .before .before)) (not-2 e) (o .if3 .left) (not-14 b) (c .before .if5 .taken))
 
 returns-6 : tie.Need-returns-6
-unfolding adoptionAnswer
 returns-6 c =
-    let f = c .before in
-    let e = f .before .before .before in
-    rw (not-5 (e .before .before .before .before), not-2 (e .before), not-11 e, not-14 f, le-ltb _ _ (c .if5 .left))
+    let b = c .before in
+    let o = b .before .before .before in
+    let e = o .before in
+    let s = start2 e in
+    sym (by-none (new s) (old s) (s .args .pairs .now) (s .args .ramp) (not-5 (e .before .before .before)) (not-2 e) (o .if3 .left) (not-14 b) (c .if5 .left))
 
 pub adoption-answer-spec : {M : Type 1} → statement M
 adoption-answer-spec =
