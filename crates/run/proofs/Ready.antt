@@ -79,6 +79,18 @@ alike-checked f h t a =
     rw (a .floats, a .words, a .buffers)
     (check-front (f .plan) (shortAreas (f .plan) (areasOf f h)) (f .indices) (f .indices) (t .words) (h .words) (f .steps) (f .steps) refl (a .ids) refl)
 
+-- and the admission, where number 14 does
+pub alike-admitted : (f : Fixed) (h t : Held) → Alike f h t → someBad (t .words) (f .plan .nodes) ≡ someBad (h .words) (f .plan .nodes)
+    → (directory : List ℕ) (samples out : List Float)
+    → admission (givenTo f directory samples) (start f t out) ≡ admission (givenTo f directory samples) (start f h out)
+unfolding checked
+alike-admitted f h t a b directory samples out =
+    let others = inputTests f directory samples out in
+    in-turn f t directory samples out
+    ∙ first-same (planTestsOf f t) (planTestsOf f h) (first (nodeTest f t ∷ others) Accepted) (alike-checked f h t a)
+    ∙ ap (first (planTestsOf f h)) (ap (λ (n : Bool). first (test badNode n ∷ others) Accepted) b)
+    ∙ sym (in-turn f h directory samples out)
+
 -- ---- a setting
 
 module _ (f : Fixed) (h : Held) (id : ℕ) (values : List Float) (ramp : ℕ) (e : answer f h (set id values ramp) ≡ Accepted) where
@@ -116,14 +128,7 @@ module _ (f : Fixed) (h : Held) (id : ℕ) (values : List Float) (ramp : ℕ) (e
   -- an accepted setting changes no answer of the admission
   pub setting-same : (directory : List ℕ) (samples out : List Float)
       → admission (givenTo f directory samples) (start f (after f h (set id values ramp)) out) ≡ admission (givenTo f directory samples) (start f h out)
-  unfolding checked
-  setting-same directory samples out =
-      let t = after f h (set id values ramp) in
-      let others = inputTests f directory samples out in
-      in-turn f t directory samples out
-      ∙ first-same (planTestsOf f t) (planTestsOf f h) (first (nodeTest f t ∷ others) Accepted) (alike-checked f h t set-alike)
-      ∙ ap (first (planTestsOf f h)) (ap (λ (b : Bool). first (test badNode b ∷ others) Accepted) (set-good .none-bad ∙ sym (tests .bad)))
-      ∙ sym (in-turn f h directory samples out)
+  setting-same = alike-admitted f h (after f h (set id values ramp)) set-alike (set-good .none-bad ∙ sym (tests .bad))
 
 -- ---- a plan that stays accepted
 
