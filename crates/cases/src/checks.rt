@@ -1,0 +1,100 @@
+// Cases 8 and 11: the lists behind the slots of a plan, and what the plan check takes.
+use crate::plans;
+use crate::text;
+use builder::PlanBuilder;
+use plan::Plan;
+use trace::Sources;
+
+fn list(plan: Plan, slot: u32, indices: &[u32], node_words: &[u32], steps: &[u32]) {
+    let mut inputs = [0u16; 4];
+    match trace::output_sources(plan, slot, indices, node_words, steps, &mut inputs) {
+        Sources::Listed(n) => text::inputs(&inputs, n),
+        Sources::Refused(r) => text::refusal(r),
+    }
+}
+
+// The lists of slots 0, 1 and 2, and the answer for slot 3.
+fn slots(plan: Plan, indices: &[u32], node_words: &[u32], steps: &[u32]) {
+    list(plan, 0, indices, node_words, steps);
+    text::put(b", ");
+    list(plan, 1, indices, node_words, steps);
+    text::put(b", ");
+    list(plan, 2, indices, node_words, steps);
+    text::put(b"; slot 3 is ");
+    list(plan, 3, indices, node_words, steps);
+}
+
+// Case 8.
+pub fn traced() {
+    let mut indices = [0u32; 2];
+    let mut coefficients = [0.0f32; 1];
+    let mut node_floats = [0.0f32; 72];
+    let mut node_words = [0u32; 3];
+    let mut steps = [0u32; 19];
+    let mut buffers = [0.0f32; 2];
+    let plan = plans::laid_out(
+        1,
+        2,
+        &[0.0],
+        &[0.0],
+        0,
+        &[
+            7,
+            3,
+            0,
+            0,
+            192,
+            1,
+            1,
+            1016,
+            0,
+            0,
+            1,
+            1,
+            1,
+            0,
+            1,
+            1072,
+            1,
+            1,
+            2,
+        ],
+        &mut indices,
+        &mut coefficients,
+        &mut node_floats,
+        &mut node_words,
+        &mut steps,
+        &mut buffers,
+    );
+    slots(plan, &indices, &node_words, &steps);
+}
+
+// Case 11: a block.
+pub fn block(n: usize) {
+    let grown = PlanBuilder::new(n);
+    let answer = grown.answer;
+    text::answer(answer);
+}
+
+// Case 11: the plan check of one step, with 14 buffers and a node of 24 values, in areas that no builder laid out.
+pub fn step(words: &[u32]) {
+    let plan = Plan {
+        block: 1,
+        buffers: 14,
+        indices: 14,
+        coefficients: 0,
+        nodes: 1,
+        steps: 1,
+        words: words.len(),
+    };
+    let answer = plan::check_plan(
+        plan,
+        &[0, 1, 2, 3, 4, 5, 6, 7, 8, 9, 10, 11, 12, 13],
+        &[],
+        &[0.0; 72],
+        &[7, 24, 0],
+        words,
+        &[0.0; 14],
+    );
+    text::answer(answer);
+}

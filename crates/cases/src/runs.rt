@@ -1,0 +1,282 @@
+// Cases 1 to 6: runs of small plans, whose steps are given as words: 7 Patch, 248 Gain, 2296 Matrix, 192 Clear, 1016 Send, 1072 Output.
+use crate::plans;
+use crate::text;
+use plan::Plan;
+use run::Ran;
+
+// One run, and how many samples it wrote; a refusal writes its number on the standard output.
+fn ran(
+    plan: Plan,
+    indices: &[u32],
+    coefficients: &[f32],
+    node_floats: &mut [f32],
+    node_words: &mut [u32],
+    steps: &[u32],
+    buffers: &mut [f32],
+    directory: &[u32],
+    samples: &[f32],
+    output: &mut [f32],
+) -> usize {
+    match run::process(
+        plan,
+        indices,
+        coefficients,
+        node_floats,
+        node_words,
+        steps,
+        buffers,
+        directory,
+        samples,
+        output,
+    ) {
+        Ran::Wrote(n) => n,
+        Ran::Refused(r) => {
+            text::refusal(r);
+            0
+        }
+    }
+}
+
+// Whether the node is at rest: the last of its words is the samples left.
+fn rest(node_words: &[u32]) {
+    if node_words.len() < 3 {
+        return;
+    }
+    if node_words[2] == 0 {
+        text::put(b"; at rest");
+        return;
+    }
+    text::put(b"; ramping");
+}
+
+// What a run over ones wrote.
+fn over_ones(
+    plan: Plan,
+    indices: &[u32],
+    coefficients: &[f32],
+    node_floats: &mut [f32],
+    node_words: &mut [u32],
+    steps: &[u32],
+    buffers: &mut [f32],
+    directory: &[u32],
+) {
+    let mut output = [0.0f32; 3];
+    let n = ran(
+        plan,
+        indices,
+        coefficients,
+        node_floats,
+        node_words,
+        steps,
+        buffers,
+        directory,
+        &[1.0, 1.0, 1.0],
+        &mut output,
+    );
+    text::samples(&output, n, b", ");
+}
+
+// Cases 1 and 2: two runs over ones of a Gain of [1] with a ramp of 4.
+pub fn ramped(block: usize, directory: &[u32]) {
+    let mut indices = [0u32; 2];
+    let mut coefficients = [0.0f32; 0];
+    let mut node_floats = [0.0f32; 72];
+    let mut node_words = [0u32; 3];
+    let mut steps = [0u32; 14];
+    let mut buffers = [0.0f32; 6];
+    let plan = plans::laid_out(
+        block,
+        2,
+        &[],
+        &[1.0],
+        4,
+        &[7, 0, 0, 0, 248, 0, 0, 1, 1, 1, 1072, 1, 1, 0],
+        &mut indices,
+        &mut coefficients,
+        &mut node_floats,
+        &mut node_words,
+        &mut steps,
+        &mut buffers,
+    );
+    over_ones(
+        plan,
+        &indices,
+        &coefficients,
+        &mut node_floats,
+        &mut node_words,
+        &steps,
+        &mut buffers,
+        directory,
+    );
+    text::put(b", then ");
+    over_ones(
+        plan,
+        &indices,
+        &coefficients,
+        &mut node_floats,
+        &mut node_words,
+        &steps,
+        &mut buffers,
+        directory,
+    );
+    rest(&node_words);
+}
+
+fn set(plan: Plan, values: &[f32], node_floats: &mut [f32], node_words: &mut [u32]) {
+    if values.len() > 0 {
+        let answer = run::set_param(plan.nodes, plans::ID, values, 0, node_floats, node_words);
+        text::refused(answer);
+    }
+}
+
+// A run of one sample of a plan of n buffers, after a setting of the node where it has values. Answers how many samples it wrote.
+fn once(
+    n: usize,
+    weights: &[f32],
+    values: &[f32],
+    ramp: u32,
+    records: &[u32],
+    setting: &[f32],
+    directory: &[u32],
+    samples: &[f32],
+    output: &mut [f32],
+) -> usize {
+    let mut indices = [0u32; 4];
+    let mut coefficients = [0.0f32; 1];
+    let mut node_floats = [0.0f32; 72];
+    let mut node_words = [0u32; 3];
+    let mut steps = [0u32; 19];
+    let mut buffers = [0.0f32; 4];
+    let plan = plans::laid_out(
+        1,
+        n,
+        weights,
+        values,
+        ramp,
+        records,
+        &mut indices,
+        &mut coefficients,
+        &mut node_floats,
+        &mut node_words,
+        &mut steps,
+        &mut buffers,
+    );
+    set(plan, setting, &mut node_floats, &mut node_words);
+    ran(
+        plan,
+        &indices,
+        &coefficients,
+        &mut node_floats,
+        &mut node_words,
+        &steps,
+        &mut buffers,
+        directory,
+        samples,
+        output,
+    )
+}
+
+// Case 3: a Gain over ones, so that it writes its gains.
+pub fn set_one_of_two() {
+    let mut output = [0.0f32; 2];
+    let n = once(
+        4,
+        &[],
+        &[1.0, 2.0],
+        0,
+        &[7, 0, 0, 0, 7, 1, 0, 1, 248, 0, 0, 2, 2, 2, 1072, 2, 2, 0],
+        &[5.0],
+        &[0, 0, 0, 1, 1, 0, 1, 1],
+        &[1.0, 1.0],
+        &mut output,
+    );
+    text::samples(&output, n, b", ");
+}
+
+// Case 4: a Matrix over 3 and infinity.
+pub fn matrix_of_two() {
+    let mut output = [0.0f32; 1];
+    let n = once(
+        3,
+        &[],
+        &[1.0, 0.0],
+        0,
+        &[7, 0, 0, 0, 7, 1, 0, 1, 2296, 0, 0, 2, 2, 1, 1072, 2, 1, 0],
+        &[],
+        &[0, 0, 0, 1, 1, 0, 1, 1],
+        &[3.0, 1.0 / 0.0],
+        &mut output,
+    );
+    text::samples(&output, n, b", ");
+}
+
+// Case 4: a Gain of 0 over infinity.
+pub fn gain_of_zero() {
+    let mut output = [0.0f32; 1];
+    let n = once(
+        2,
+        &[],
+        &[0.0],
+        0,
+        &[7, 0, 0, 0, 248, 0, 0, 1, 1, 1, 1072, 1, 1, 0],
+        &[],
+        &[0, 0, 0, 1],
+        &[1.0 / 0.0],
+        &mut output,
+    );
+    text::samples(&output, n, b", ");
+}
+
+// Case 5: a Matrix of 1 over -0.
+pub fn matrix_of_one() {
+    let mut output = [-1.0f32; 1];
+    once(
+        2,
+        &[],
+        &[1.0],
+        0,
+        &[7, 0, 0, 0, 2296, 0, 0, 1, 1, 1, 1072, 1, 1, 0],
+        &[],
+        &[0, 0, 0, 1],
+        &[-0.0],
+        &mut output,
+    );
+    text::signed(output[0]);
+}
+
+// Case 6: a Send of 2^-140 with the weight 2^-10 and the target 2^20, into a buffer of silence.
+pub fn send(ramp: u32) {
+    let mut output = [0.0f32; 1];
+    let n = once(
+        2,
+        &[0.0009765625],
+        &[1048576.0],
+        ramp,
+        &[
+            7,
+            0,
+            0,
+            0,
+            192,
+            1,
+            1,
+            1016,
+            0,
+            0,
+            1,
+            1,
+            1,
+            0,
+            1,
+            1072,
+            1,
+            1,
+            0,
+        ],
+        &[],
+        &[0, 0, 0, 1],
+        &[7.1746481373430634e-43],
+        &mut output,
+    );
+    text::samples(&output, n, b", ");
+}
