@@ -1,0 +1,2 @@
+-- document 01's table of cases
+pub mod Table
