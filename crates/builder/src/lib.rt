@@ -3,6 +3,7 @@
 mod areas;
 mod tests;
 
+pub use areas::put_floats;
 use node::Node;
 use plan::Plan;
 use plan::Span;

@@ -12,6 +12,7 @@ ghost use Rattle.fold.specs.Folds.{gainInRange, gainsInRange, firstHad, 
 ghost use Rattle.fold.specs.Width.{absolute, rowSum, larger, largest, divided, normalised, widthAnswer, widthArea};
 
 // The caller's linear gains. The pan pair is that of a mono signal in the centre, left and right.
+#[repr(C)]
 pub struct FoldGains {
     pub pan_left: f64,
     pub pan_right: f64,

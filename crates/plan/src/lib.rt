@@ -31,6 +31,7 @@ pub use step_tests::step_wide;
 pub use step_tests::used;
 
 // A plan's block and counts, which go with its lent areas. `words` counts the step words.
+#[repr(C)]
 pub struct Plan {
     pub block: usize,
     pub buffers: usize,
@@ -42,6 +43,7 @@ pub struct Plan {
 }
 
 // A run of entries in the index list or in the coefficients.
+#[repr(C)]
 pub struct Span {
     pub start: u32,
     pub len: u32,
