@@ -1,0 +1,13 @@
+-- `mixer::replies::counted` meets its contract. Assumes nothing.
+use borrow.Author.Needs.{needs}
+use Rattle.mixer.proofs.replies.counted.Statement.{statement}
+use Rattle.mixer.proofs.replies.counted.Tie as tie
+
+accepted-requires : tie.Need-accepted-requires
+accepted-requires c κs = search needs
+
+returns : tie.Need-returns
+returns c = cc
+
+pub counted-spec : {M : Type 1} → statement M
+counted-spec = tie.close (tie.spec accepted-requires returns)

@@ -1,0 +1,13 @@
+-- `mixer::replies::not_counted` meets its contract. Assumes nothing.
+use borrow.Author.Needs.{needs}
+use Rattle.mixer.proofs.replies.not_counted.Statement.{statement}
+use Rattle.mixer.proofs.replies.not_counted.Tie as tie
+
+refused-requires : tie.Need-refused-requires
+refused-requires c κs = search needs
+
+returns : tie.Need-returns
+returns c = cc
+
+pub not-counted-spec : {M : Type 1} → statement M
+not-counted-spec = tie.close (tie.spec refused-requires returns)

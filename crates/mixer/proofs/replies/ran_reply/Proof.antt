@@ -1,0 +1,33 @@
+-- `mixer::replies::ran_reply` meets its contract. Assumes nothing.
+use borrow.Author.Needs.{needs}
+use Rattle.mixer.proofs.replies.ran_reply.Statement.{statement}
+use Rattle.mixer.proofs.replies.ran_reply.Tie as tie
+
+enum-known-answer : tie.Need-enum-known-answer
+enum-known-answer c = search needs
+
+counted-requires : tie.Need-counted-requires
+counted-requires c κs = search needs
+
+enum-known-answer-2 : tie.Need-enum-known-answer-2
+enum-known-answer-2 c = search needs
+
+not-counted-requires : tie.Need-not-counted-requires
+not-counted-requires c κs = search needs
+
+returns : tie.Need-returns
+returns c = cc
+
+returns-2 : tie.Need-returns-2
+returns-2 c = cc
+
+pub ran-reply-spec : {M : Type 1} → statement M
+ran-reply-spec =
+    tie.close
+    (tie.spec
+    enum-known-answer
+    counted-requires
+    enum-known-answer-2
+    not-counted-requires
+    returns
+    returns-2)

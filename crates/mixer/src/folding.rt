@@ -1,0 +1,87 @@
+// The calls of crates `format`, `fold` and `rounding`.
+use crate::GainsReply;
+use crate::Status;
+use crate::StereoReply;
+use crate::replies::gains_reply;
+use crate::replies::status_of;
+use crate::replies::stereo_reply;
+use fold::FoldGains;
+use format::Format;
+ghost use mathlib.Core.Path.{_≡_};
+ghost use lib.ListN.{length};
+ghost use Rattle.rounding.specs.Narrow.{narrowed};
+ghost use Rattle.format.specs.Formats.{channels, labelOf, indexOf, has};
+ghost use Rattle.format.specs.Balance.{balanceGains, balanceAnswer, balanceArea, stereoMatrix};
+ghost use Rattle.fold.specs.Width.{widthAnswer, widthArea};
+ghost use Rattle.mixer.specs.Replies.{statusOf, gainsReply, stereoReply};
+
+#[no_mangle]
+pub extern "C" fn mixer_format_channels(format: u32) -> usize
+    ensures { λ r. ⌜ r ≡ channels format ⌝ }
+{
+    Format::channels(format)
+}
+
+#[no_mangle]
+pub extern "C" fn mixer_format_label(format: u32, channel: usize) -> u32
+    ensures { λ r. ⌜ r ≡ labelOf format channel ⌝ }
+{
+    Format::label(format, channel)
+}
+
+#[no_mangle]
+pub extern "C" fn mixer_format_index(format: u32, label: u32) -> usize
+    ensures { λ r. ⌜ r ≡ indexOf format label ⌝ }
+{
+    Format::index(format, label)
+}
+
+#[no_mangle]
+pub extern "C" fn mixer_format_has(format: u32, label: u32) -> bool
+    ensures { λ r. ⌜ r ≡ has format label ⌝ }
+{
+    Format::has(format, label)
+}
+
+#[no_mangle]
+pub extern "C" fn mixer_balance_gains(balance: f64) -> GainsReply
+    ensures { λ r. ⌜ r ≡ gainsReply (balanceGains balance) ⌝ }
+{
+    gains_reply(format::balance_gains(balance))
+}
+
+#[no_mangle]
+pub extern "C" fn mixer_balance_of(format: u32, balance: f64, gains: &mut [f32]) -> Status
+    ensures reply { λ r. ⌜ r ≡ statusOf (balanceAnswer format balance (length (now (gains .entry)))) ⌝ }
+    ensures gains { λ _. ⌜ now (gains .exit) ≡ balanceArea format balance (now (gains .entry)) ⌝ }
+{
+    status_of(format::balance_of(format, balance, gains))
+}
+
+#[no_mangle]
+pub extern "C" fn mixer_stereo_matrix(width: f64, balance: f64) -> StereoReply
+    ensures { λ r. ⌜ r ≡ stereoReply (stereoMatrix width balance) ⌝ }
+{
+    stereo_reply(format::stereo_matrix(width, balance))
+}
+
+#[no_mangle]
+pub extern "C" fn mixer_width_matrix(
+    src: u32,
+    dst: u32,
+    gains: FoldGains,
+    normalise: bool,
+    matrix: &mut [f32],
+) -> Status
+    ensures reply { λ r. ⌜ r ≡ statusOf (widthAnswer src dst gains (length (now (matrix .entry)))) ⌝ }
+    ensures matrix { λ _. ⌜ now (matrix .exit) ≡ widthArea src dst gains normalise (now (matrix .entry)) ⌝ }
+{
+    status_of(fold::width_matrix(src, dst, gains, normalise, matrix))
+}
+
+#[no_mangle]
+pub extern "C" fn mixer_to_f32(x: f64) -> f32
+    ensures { λ r. ⌜ r ≡ narrowed x ⌝ }
+{
+    rounding::to_f32(x)
+}

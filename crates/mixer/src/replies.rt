@@ -1,0 +1,180 @@
+// The answers in C's form.
+use crate::BufferReply;
+use crate::CountReply;
+use crate::GainsReply;
+use crate::NodeReply;
+use crate::PlanReply;
+use crate::SpanReply;
+use crate::Status;
+use crate::StereoReply;
+use builder::NumberAnswer;
+use builder::SpanAnswer;
+use format::Gains;
+use format::Stereo;
+use plan::Plan;
+use plan::Span;
+use refusal::Answer;
+use refusal::Refusal;
+use run::Ran;
+use trace::Sources;
+ghost use mathlib.Core.Path.{_≡_};
+ghost use Rattle.mixer.specs.Replies.{accepted, refused, statusOf, planReply, spanReply, nodeReply, bufferReply, counted, notCounted, ranReply, sourcesReply, gainsReply, stereoReply};
+
+fn accepted() -> Status
+    ensures { λ r. ⌜ r ≡ accepted ⌝ }
+{
+    Status {
+        number: 0,
+        place: 0,
+    }
+}
+
+fn refused(r: Refusal) -> Status
+    ensures { λ s. ⌜ s ≡ refused r ⌝ }
+{
+    Status {
+        number: r.number,
+        place: r.place,
+    }
+}
+
+pub fn status_of(answer: Answer) -> Status
+    ensures { λ s. ⌜ s ≡ statusOf answer ⌝ }
+{
+    match answer {
+        Answer::Accepted => accepted(),
+        Answer::Refused(r) => refused(r),
+    }
+}
+
+pub fn plan_reply(plan: Plan, answer: Answer) -> PlanReply
+    ensures { λ r. ⌜ r ≡ planReply plan answer ⌝ }
+{
+    PlanReply {
+        status: status_of(answer),
+        plan,
+    }
+}
+
+pub fn span_reply(plan: Plan, answer: SpanAnswer) -> SpanReply
+    ensures { λ r. ⌜ r ≡ spanReply plan answer ⌝ }
+{
+    match answer {
+        SpanAnswer::Made(span) => SpanReply {
+            status: accepted(),
+            plan,
+            span,
+        },
+        SpanAnswer::Refused(r) => SpanReply {
+            status: refused(r),
+            plan,
+            span: Span { start: 0, len: 0 },
+        },
+    }
+}
+
+pub fn node_reply(plan: Plan, answer: NumberAnswer) -> NodeReply
+    ensures { λ r. ⌜ r ≡ nodeReply plan answer ⌝ }
+{
+    match answer {
+        NumberAnswer::Number(node) => NodeReply {
+            status: accepted(),
+            plan,
+            node,
+        },
+        NumberAnswer::Refused(r) => NodeReply {
+            status: refused(r),
+            plan,
+            node: 0,
+        },
+    }
+}
+
+pub fn buffer_reply(answer: NumberAnswer) -> BufferReply
+    ensures { λ r. ⌜ r ≡ bufferReply answer ⌝ }
+{
+    match answer {
+        NumberAnswer::Number(buffer) => BufferReply {
+            status: accepted(),
+            buffer,
+        },
+        NumberAnswer::Refused(r) => BufferReply {
+            status: refused(r),
+            buffer: 0,
+        },
+    }
+}
+
+pub fn counted(count: usize) -> CountReply
+    ensures { λ r. ⌜ r ≡ counted count ⌝ }
+{
+    CountReply {
+        status: accepted(),
+        count,
+    }
+}
+
+pub fn not_counted(r: Refusal) -> CountReply
+    ensures { λ c. ⌜ c ≡ notCounted r ⌝ }
+{
+    CountReply {
+        status: refused(r),
+        count: 0,
+    }
+}
+
+pub fn ran_reply(answer: Ran) -> CountReply
+    ensures { λ r. ⌜ r ≡ ranReply answer ⌝ }
+{
+    match answer {
+        Ran::Wrote(n) => counted(n),
+        Ran::Refused(r) => not_counted(r),
+    }
+}
+
+pub fn sources_reply(answer: Sources) -> CountReply
+    ensures { λ r. ⌜ r ≡ sourcesReply answer ⌝ }
+{
+    match answer {
+        Sources::Listed(n) => counted(n as usize),
+        Sources::Refused(r) => not_counted(r),
+    }
+}
+
+pub fn gains_reply(answer: Gains) -> GainsReply
+    ensures { λ r. ⌜ r ≡ gainsReply answer ⌝ }
+{
+    match answer {
+        Gains::Pair(left, right) => GainsReply {
+            status: accepted(),
+            left,
+            right,
+        },
+        Gains::Refused(r) => GainsReply {
+            status: refused(r),
+            left: 0.0,
+            right: 0.0,
+        },
+    }
+}
+
+pub fn stereo_reply(answer: Stereo) -> StereoReply
+    ensures { λ r. ⌜ r ≡ stereoReply answer ⌝ }
+{
+    match answer {
+        Stereo::Matrix(ll, lr, rl, rr) => StereoReply {
+            status: accepted(),
+            left_from_left: ll,
+            left_from_right: lr,
+            right_from_left: rl,
+            right_from_right: rr,
+        },
+        Stereo::Refused(r) => StereoReply {
+            status: refused(r),
+            left_from_left: 0.0,
+            left_from_right: 0.0,
+            right_from_left: 0.0,
+            right_from_right: 0.0,
+        },
+    }
+}

@@ -1,0 +1,23 @@
+// The calls of crate `trace`.
+use crate::CountReply;
+use crate::replies::sources_reply;
+use plan::Plan;
+ghost use mathlib.Core.Path.{_≡_};
+ghost use lib.ListN.{length};
+ghost use Rattle.trace.specs.Calls.{sourcesAnswer, sourcesArea};
+ghost use Rattle.mixer.specs.Replies.{sourcesReply};
+
+#[no_mangle]
+pub extern "C" fn mixer_output_sources(
+    plan: Plan,
+    slot: u32,
+    indices: &[u32],
+    node_words: &[u32],
+    steps: &[u32],
+    list: &mut [u16],
+) -> CountReply
+    ensures reply { λ r. ⌜ r ≡ sourcesReply (sourcesAnswer plan slot (now (indices .entry)) (now («node_words» .entry)) (now (steps .entry)) (length (now (list .entry)))) ⌝ }
+    ensures list { λ _. ⌜ now (list .exit) ≡ sourcesArea plan slot (now (indices .entry)) (now («node_words» .entry)) (now (steps .entry)) (now (list .entry)) ⌝ }
+{
+    sources_reply(trace::output_sources(plan, slot, indices, node_words, steps, list))
+}
