@@ -1,5 +1,6 @@
--- The reply of a call in C's form for each answer of the Rattle call. The values beside a refusal are 0. Definitions only.
+-- The reply of a call in C's form for each answer of the Rattle call. The values beside a refusal are 0, or false. Definitions only.
 use Prim.Native.Nat.{ℕ}
+use mathlib.Core.Bool.{true, false}
 use Rattle.refusal.specs.declared.Refusal.{Refusal}
 use Rattle.refusal.specs.declared.Answer.{Answer}
 use Rattle.refusal.specs.declared.Answer.the-variants as answers
@@ -13,6 +14,8 @@ use Rattle.run.specs.declared.Ran.{Ran}
 use Rattle.run.specs.declared.Ran.the-variants as runs
 use Rattle.trace.specs.declared.Sources.{Sources}
 use Rattle.trace.specs.declared.Sources.the-variants as sources
+use Rattle.trace.specs.declared.CleanAnswer.{CleanAnswer}
+use Rattle.trace.specs.declared.CleanAnswer.the-variants as cleans
 use Rattle.format.specs.declared.Gains.{Gains}
 use Rattle.format.specs.declared.Gains.the-variants as gains
 use Rattle.format.specs.declared.Stereo.{Stereo}
@@ -24,6 +27,7 @@ use Rattle.mixer.specs.declared.SpanReply.{SpanReply}
 use Rattle.mixer.specs.declared.NodeReply.{NodeReply}
 use Rattle.mixer.specs.declared.BufferReply.{BufferReply}
 use Rattle.mixer.specs.declared.CountReply.{CountReply}
+use Rattle.mixer.specs.declared.CleanReply.{CleanReply}
 use Rattle.mixer.specs.declared.GainsReply.{GainsReply}
 use Rattle.mixer.specs.declared.StereoReply.{StereoReply}
 
@@ -69,6 +73,11 @@ ranReply (runs.Refused r) = notCounted r
 abbrev pub sourcesReply : Sources → CountReply
 sourcesReply (sources.Listed n) = counted n
 sourcesReply (sources.Refused r) = notCounted r
+
+abbrev pub cleanReply : CleanAnswer → CleanReply
+cleanReply cleans.Clean = record { status = accepted; clean = true }
+cleanReply cleans.NotClean = record { status = accepted; clean = false }
+cleanReply (cleans.Refused r) = record { status = refused r; clean = false }
 
 -- ---- balance and width
 

@@ -3,7 +3,7 @@
 //
 // The shape is one for all calls. What a call lends are slices, in C a pointer and a length. All else goes in and comes back by value, the plan's
 // record too, so that a caller can hand in no record and no place for an answer that is too short, and a refused call writes nothing.
-// A call that can be refused replies with a `Status`, beside its values where it has any; those of a refused call are 0.
+// A call that can be refused replies with a `Status`, beside its values where it has any; those of a refused call are 0 and false.
 // No call has a `requires`. `specs/Replies.antt` gives the reply for each answer.
 mod building;
 mod folding;
@@ -53,6 +53,12 @@ pub struct BufferReply {
 pub struct CountReply {
     pub status: Status,
     pub count: usize,
+}
+
+#[repr(C)]
+pub struct CleanReply {
+    pub status: Status,
+    pub clean: bool,
 }
 
 #[repr(C)]

@@ -1,5 +1,6 @@
 // The answers in C's form.
 use crate::BufferReply;
+use crate::CleanReply;
 use crate::CountReply;
 use crate::GainsReply;
 use crate::NodeReply;
@@ -16,9 +17,10 @@ use plan::Span;
 use refusal::Answer;
 use refusal::Refusal;
 use run::Ran;
+use trace::CleanAnswer;
 use trace::Sources;
 ghost use mathlib.Core.Path.{_≡_};
-ghost use Rattle.mixer.specs.Replies.{accepted, refused, statusOf, planReply, spanReply, nodeReply, bufferReply, counted, notCounted, ranReply, sourcesReply, gainsReply, stereoReply};
+ghost use Rattle.mixer.specs.Replies.{accepted, refused, statusOf, planReply, spanReply, nodeReply, bufferReply, counted, notCounted, ranReply, sourcesReply, cleanReply, gainsReply, stereoReply};
 
 fn accepted() -> Status
     ensures { λ r. ⌜ r ≡ accepted ⌝ }
@@ -138,6 +140,25 @@ pub fn sources_reply(answer: Sources) -> CountReply
     match answer {
         Sources::Listed(n) => counted(n as usize),
         Sources::Refused(r) => not_counted(r),
+    }
+}
+
+pub fn clean_reply(answer: CleanAnswer) -> CleanReply
+    ensures { λ r. ⌜ r ≡ cleanReply answer ⌝ }
+{
+    match answer {
+        CleanAnswer::Clean => CleanReply {
+            status: accepted(),
+            clean: true,
+        },
+        CleanAnswer::NotClean => CleanReply {
+            status: accepted(),
+            clean: false,
+        },
+        CleanAnswer::Refused(r) => CleanReply {
+            status: refused(r),
+            clean: false,
+        },
     }
 }
 

@@ -1,4 +1,4 @@
-// The plan check, of crate `plan`, and the calls of crate `run`.
+// The plan check, of crate `plan`, the calls of crate `run`, and `adopt`, of crate `adoption`.
 use crate::CountReply;
 use crate::Status;
 use crate::replies::counted;
@@ -14,6 +14,7 @@ ghost use Rattle.plan.specs.Check.{checkPlan};
 ghost use Rattle.run.specs.Input.{directoryBad};
 ghost use Rattle.run.specs.Setting.{settingAnswer, settingFloats, settingWords};
 ghost use Rattle.run.specs.Run.{given, state, processed, processAnswer};
+ghost use Rattle.adoption.specs.Adoption.{lent, adoptionAnswer, adoptionFloats, adoptionWords};
 ghost use Rattle.mixer.specs.Replies.{statusOf, ranReply};
 ghost use Rattle.mixer.specs.Lookup.{lookupReply, lookupArea};
 
@@ -115,4 +116,32 @@ pub extern "C" fn mixer_directory_bad(directory: &[u32], samples: usize) -> bool
     ensures { λ r. ⌜ r ≡ directoryBad (now (directory .entry)) samples ⌝ }
 {
     run::directory_bad(directory, samples)
+}
+
+// Of the plans only their counts of nodes are used.
+#[no_mangle]
+pub extern "C" fn mixer_adopt(
+    plan: Plan,
+    node_floats: &mut [f32],
+    node_words: &mut [u32],
+    old_plan: Plan,
+    old_floats: &[f32],
+    old_words: &[u32],
+    pairs: &[u32],
+    ramp: u32,
+) -> Status
+    ensures reply { λ r. ⌜ r ≡ statusOf (adoptionAnswer (lent (plan .nodes) (now («node_floats» .entry)) (now («node_words» .entry))) (lent («old_plan» .nodes) (now («old_floats» .entry)) (now («old_words» .entry))) (now (pairs .entry)) ramp) ⌝ }
+    ensures floats { λ _. ⌜ now («node_floats» .exit) ≡ adoptionFloats (lent (plan .nodes) (now («node_floats» .entry)) (now («node_words» .entry))) (lent («old_plan» .nodes) (now («old_floats» .entry)) (now («old_words» .entry))) (now (pairs .entry)) ramp ⌝ }
+    ensures words { λ _. ⌜ now («node_words» .exit) ≡ adoptionWords (lent (plan .nodes) (now («node_floats» .entry)) (now («node_words» .entry))) (lent («old_plan» .nodes) (now («old_floats» .entry)) (now («old_words» .entry))) (now (pairs .entry)) ramp ⌝ }
+{
+    status_of(adoption::adopt(
+        plan.nodes,
+        node_floats,
+        node_words,
+        old_plan.nodes,
+        old_floats,
+        old_words,
+        pairs,
+        ramp,
+    ))
 }

@@ -1,11 +1,13 @@
 // The calls of crate `trace`.
+use crate::CleanReply;
 use crate::CountReply;
+use crate::replies::clean_reply;
 use crate::replies::sources_reply;
 use plan::Plan;
 ghost use mathlib.Core.Path.{_≡_};
 ghost use lib.ListN.{length};
-ghost use Rattle.trace.specs.Calls.{sourcesAnswer, sourcesArea};
-ghost use Rattle.mixer.specs.Replies.{sourcesReply};
+ghost use Rattle.trace.specs.Calls.{sourcesAnswer, sourcesArea, cleanAnswer};
+ghost use Rattle.mixer.specs.Replies.{sourcesReply, cleanReply};
 
 #[no_mangle]
 pub extern "C" fn mixer_output_sources(
@@ -20,4 +22,16 @@ pub extern "C" fn mixer_output_sources(
     ensures list { λ _. ⌜ now (list .exit) ≡ sourcesArea plan slot (now (indices .entry)) (now («node_words» .entry)) (now (steps .entry)) (now (list .entry)) ⌝ }
 {
     sources_reply(trace::output_sources(plan, slot, indices, node_words, steps, list))
+}
+
+#[no_mangle]
+pub extern "C" fn mixer_clean_answer(
+    plan: Plan,
+    indices: &[u32],
+    node_words: &[u32],
+    steps: &[u32],
+) -> CleanReply
+    ensures { λ r. ⌜ r ≡ cleanReply (cleanAnswer plan (now (indices .entry)) (now («node_words» .entry)) (now (steps .entry))) ⌝ }
+{
+    clean_reply(trace::clean_answer(plan, indices, node_words, steps))
 }
