@@ -20,10 +20,6 @@ use Rattle.plan.proofs.Bools.{or-none}
 use Rattle.adoption.specs.Adoption.{Lent, overNodes, shortNodes, badNodes, adoptionTests, adoptionAnswer, pairsAdopted, adoptionFloats, adoptionWords}
 use Rattle.adoption.specs.Fits.{Fit}
 
--- two tests that a call worked out
-pub or-is : {a b x y r : Bool} → a ≡ x → b ≡ y → (a || b) ≡ r → (x || y) ≡ r
-or-is p q e = cc
-
 pub enough : (l : Lent) → shortNodes l ≡ false → Room (l .count) (l .floats) (l .words)
 enough l e =
     let a = or-none (shorter (length (l .floats)) (l .count) nodeFloats) _ e in

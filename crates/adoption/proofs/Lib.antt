@@ -14,3 +14,5 @@ pub mod Named
 pub mod Adoption
 -- adoptions by computation
 pub mod Examples
+-- runs after an adoption
+pub mod Runs
