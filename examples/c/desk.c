@@ -1,0 +1,184 @@
+/* A small layout over the mixer's C interface: a microphone and a stereo band into the hall (slot 0), the microphone alone to the stage (slot 1). */
+#include <stdio.h>
+#include <stdlib.h>
+
+#include "mixer.h"
+
+enum { BLOCK = 4, BUFFERS = 7, NODES = 3, CHANNELS = 3, MICROPHONE = 12, BAND = 40, HALL = 0, STAGE = 1 };
+enum { STRIP_LEVEL = 100, BAND_LEVEL = 101, STAGE_LEVEL = 102 };
+
+/* The record of a plan and its areas. */
+struct desk {
+    mixer_plan plan;
+    uint32_t indices[16];
+    float coefficients[16];
+    float node_floats[NODES * MIXER_NODE_FLOATS];
+    uint32_t node_words[NODES * MIXER_NODE_WORDS];
+    uint32_t steps[64];
+    float buffers[BUFFERS * BLOCK];
+};
+
+#define AREA(a) (a), sizeof(a) / sizeof((a)[0])
+
+static void expect(const char *call, mixer_status s)
+{
+    if (s.number != MIXER_ACCEPTED) {
+        printf("%s: refused %u at %u\n", call, (unsigned)s.number, (unsigned)s.place);
+        exit(1);
+    }
+}
+
+static mixer_span buffers(struct desk *d, size_t n)
+{
+    mixer_span_reply r = mixer_buffers(d->plan, n, AREA(d->indices));
+    expect("buffers", r.status);
+    d->plan = r.plan;
+    return r.span;
+}
+
+static mixer_span weights(struct desk *d, uint32_t src, uint32_t dst)
+{
+    const mixer_fold_gains gains = {0.5, 0.5, 0.5, 0.5, 0.5, 0.0};
+    float matrix[4];
+    mixer_span_reply r;
+    expect("width_matrix", mixer_width_matrix(src, dst, gains, false, AREA(matrix)));
+    r = mixer_coefficients(d->plan, matrix, mixer_format_channels(src) * mixer_format_channels(dst), AREA(d->coefficients));
+    expect("coefficients", r.status);
+    d->plan = r.plan;
+    return r.span;
+}
+
+static uint32_t node(struct desk *d, uint32_t id, float value)
+{
+    mixer_node_reply r = mixer_node(d->plan, id, &value, 1, 0, AREA(d->node_floats), AREA(d->node_words));
+    expect("node", r.status);
+    d->plan = r.plan;
+    return r.node;
+}
+
+static void step(struct desk *d, const uint32_t *record, size_t len)
+{
+    mixer_plan_reply r = mixer_step(d->plan, record, len, AREA(d->steps));
+    expect("step", r.status);
+    d->plan = r.plan;
+}
+
+static void patch(struct desk *d, uint32_t input, uint32_t channel, mixer_span dst)
+{
+    mixer_buffer_reply r = mixer_buffer(d->plan, dst, channel, AREA(d->indices));
+    expect("buffer", r.status);
+    step(d, (const uint32_t[]){MIXER_PATCH, input, channel, r.buffer}, 4);
+}
+
+static void send(struct desk *d, uint32_t node, mixer_span src, mixer_span dst, mixer_span w)
+{
+    step(d, (const uint32_t[]){MIXER_SEND, node, src.start, src.len, dst.start, dst.len, w.start, w.len}, 8);
+}
+
+static void build(struct desk *d)
+{
+    mixer_plan_reply r = mixer_new(BLOCK);
+    mixer_span microphone, band, strip, hall, stage;
+    uint32_t strip_level, band_level, stage_level;
+    expect("new", r.status);
+    d->plan = r.plan;
+    microphone = buffers(d, 1);
+    band = buffers(d, 2);
+    strip = buffers(d, 1);
+    hall = buffers(d, 2);
+    stage = buffers(d, 1);
+    strip_level = node(d, STRIP_LEVEL, 0.5f);
+    band_level = node(d, BAND_LEVEL, 1.0f);
+    stage_level = node(d, STAGE_LEVEL, 1.0f);
+    patch(d, MICROPHONE, 0, microphone);
+    patch(d, BAND, 0, band);
+    patch(d, BAND, 1, band);
+    step(d, (const uint32_t[]){MIXER_GAIN, strip_level, microphone.start, microphone.len, strip.start, strip.len}, 6);
+    step(d, (const uint32_t[]){MIXER_CLEAR, hall.start, hall.len}, 3);
+    step(d, (const uint32_t[]){MIXER_CLEAR, stage.start, stage.len}, 3);
+    send(d, band_level, band, hall, weights(d, MIXER_STEREO, MIXER_STEREO));
+    send(d, band_level, strip, hall, weights(d, MIXER_MONO, MIXER_STEREO));
+    send(d, stage_level, strip, stage, weights(d, MIXER_MONO, MIXER_MONO));
+    step(d, (const uint32_t[]){MIXER_OUTPUT, hall.start, hall.len, HALL}, 4);
+    step(d, (const uint32_t[]){MIXER_OUTPUT, stage.start, stage.len, STAGE}, 4);
+    r = mixer_finish(d->plan, AREA(d->buffers));
+    expect("finish", r.status);
+    d->plan = r.plan;
+    printf("built: %zu buffers, %zu nodes, %zu steps of %zu words\n", d->plan.buffers, d->plan.nodes, d->plan.steps, d->plan.words);
+}
+
+/* One block with the microphone at 1 and the band at 0.25 and -0.25, into an output area of n samples. */
+static mixer_count_reply run(struct desk *d, float *output, size_t n)
+{
+    static const uint32_t directory[] = {MICROPHONE, 0, 0, BLOCK, BAND, 0, BLOCK, BLOCK, BAND, 1, 2 * BLOCK, BLOCK};
+    static const float samples[] = {1, 1, 1, 1, 0.25f, 0.25f, 0.25f, 0.25f, -0.25f, -0.25f, -0.25f, -0.25f};
+    return mixer_process(d->plan, AREA(d->indices), AREA(d->coefficients), AREA(d->node_floats), AREA(d->node_words), AREA(d->steps),
+                         AREA(d->buffers), AREA(directory), AREA(samples), output, n);
+}
+
+static void block(struct desk *d)
+{
+    static const char *const names[CHANNELS] = {"hall left", "hall right", "stage"};
+    float output[CHANNELS * BLOCK];
+    mixer_count_reply r = run(d, AREA(output));
+    size_t c, k;
+    expect("process", r.status);
+    printf("block of %zu samples\n", r.count);
+    for (c = 0; c < CHANNELS; c++) {
+        printf("  %-10s", names[c]);
+        for (k = 0; k < BLOCK; k++) {
+            printf(" %.5f", (double)output[c * BLOCK + k]);
+        }
+        printf("\n");
+    }
+}
+
+static mixer_status level(struct desk *d, uint32_t id, float value, uint32_t ramp)
+{
+    return mixer_set_param(d->plan, id, &value, 1, ramp, AREA(d->node_floats), AREA(d->node_words));
+}
+
+static void refused(const char *call, mixer_status s)
+{
+    printf("%s: refused %u, place %u\n", call, (unsigned)s.number, (unsigned)s.place);
+}
+
+static void cue_list(const struct desk *d, uint32_t slot)
+{
+    uint16_t list[MIXER_INPUTS];
+    mixer_count_reply r = mixer_output_sources(d->plan, slot, AREA(d->indices), AREA(d->node_words), AREA(d->steps), AREA(list));
+    size_t i;
+    expect("output_sources", r.status);
+    printf("slot %u: inputs", (unsigned)slot);
+    for (i = 0; i < r.count; i++) {
+        printf(" %u", (unsigned)list[i]);
+    }
+    printf("\n");
+}
+
+int main(void)
+{
+    static struct desk d;
+    float output[CHANNELS * BLOCK];
+    uint16_t list[MIXER_INPUTS];
+    mixer_clean_reply clean;
+    build(&d);
+    block(&d);
+    printf("strip to 1 over 8 samples\n");
+    expect("set_param", level(&d, STRIP_LEVEL, 1.0f, 8));
+    block(&d);
+    block(&d);
+    block(&d);
+    refused("a setting of an unknown node", level(&d, 7, 1.0f, 0));
+    refused("an output area that is short", run(&d, output, CHANNELS * BLOCK - 1).status);
+    d.steps[0] = 1;
+    refused("a damaged first step", run(&d, AREA(output)).status);
+    d.steps[0] = MIXER_PATCH;
+    clean = mixer_clean_answer(d.plan, AREA(d.indices), AREA(d.node_words), AREA(d.steps));
+    expect("clean_answer", clean.status);
+    printf("clean: %s\n", clean.clean ? "yes" : "no");
+    cue_list(&d, HALL);
+    cue_list(&d, STAGE);
+    refused("slot 2", mixer_output_sources(d.plan, 2, AREA(d.indices), AREA(d.node_words), AREA(d.steps), AREA(list)).status);
+    return 0;
+}
