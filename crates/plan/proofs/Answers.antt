@@ -1,6 +1,6 @@
 -- What each test of the check makes of its answer: one law for each way out, of a step, of a turn over the steps, and of the plan.
 -- Assumes nothing.
-use mathlib.Core.Path.{_≡_, ap, _∙_}
+use mathlib.Core.Path.{_≡_, refl, ap, _∙_}
 use mathlib.Core.Bool.{Bool, true, false}
 use mathlib.Core.List.{List, [], _++_}
 use Prim.Native.Nat.{ℕ, suc, _+_, _-_, _<_}
@@ -9,13 +9,16 @@ use lib.ListN.{take}
 use Rattle.refusal.specs.Numbers.{blockLength, shortArea, unreadableStep, outsideTable, overLimit, sharedBuffer, tooManyValues, idTaken}
 use Rattle.refusal.specs.Tests.{refusal, Test, first}
 use Rattle.refusal.specs.declared.Refusal.{Refusal}
+use Rattle.refusal.specs.declared.Answer.{Answer}
 use Rattle.refusal.specs.declared.Answer.the-variants.{Accepted, Refused}
 use Rattle.refusal.proofs.Laws.{first-append, accepted-none, none-rest, refused-rest}
 use Rattle.plan.specs.declared.Plan.{Plan}
 use Rattle.plan.specs.declared.Step.{Step}
 use Rattle.plan.specs.declared.Read.the-variants.{Found, Bad}
+use Rattle.plan.specs.declared.Counted.the-variants as tally
 use Rattle.plan.specs.Limits.{unitLimits, badBlock, overLimits}
 use Rattle.plan.specs.Words.{readAt}
+use Rattle.plan.specs.Loops.{counted}
 use Rattle.plan.specs.Check.{someFrom, idTwice, outside, tooWide, shares, stepTests, stepsTests, checked}
 
 -- what is left of n at an i below it
@@ -103,3 +106,18 @@ module _ (p : Plan) (short : Bool) (indices words steps : List ℕ) where
               → checked p short indices words steps ≡ first (stepsTests p indices (take (p .words) steps) (p .steps) 0 1) Accepted
           unfolding checked
           check-steps e = rw (e1, e5, e2, e4, e)
+
+-- ---- an answer with the channels, and back
+pub counted-refused : {a : Answer} (n : ℕ) {q r : Refusal} → q ≡ r → a ≡ Refused r → tally.Refused q ≡ counted a n
+counted-refused n p e = rw (p, e)
+
+pub counted-accepted : {a : Answer} {n m : ℕ} → n ≡ m → a ≡ Accepted → tally.Channels n ≡ counted a m
+counted-accepted p e = rw (p, e)
+
+pub was-accepted : (a : Answer) (n m : ℕ) → tally.Channels m ≡ counted a n → (a ≡ Accepted) × (m ≡ n)
+was-accepted Accepted n m e = (refl, cc)
+was-accepted (Refused r) n m e = (cc, cc)
+
+pub was-refused : (a : Answer) (n : ℕ) (q : Refusal) → tally.Refused q ≡ counted a n → a ≡ Refused q
+was-refused Accepted n q e = cc
+was-refused (Refused r) n q e = cc

@@ -1,10 +1,16 @@
--- What the loops of the check go by. Definitions only.
+-- What the loops of the check go by, and what it counts. Definitions only.
 use Prim.Native.Nat.{ℕ, _+_, _*_, _<_}
 use mathlib.Core.Bool.{Bool}
-use mathlib.Core.List.{List}
+use mathlib.Core.List.{List, [], _∷_}
 use lib.Dec.{leb}
 use lib.ListN.{getD}
+use Rattle.refusal.specs.Tests.{outcome}
+use Rattle.refusal.specs.declared.Answer.{Answer}
 use Rattle.plan.specs.declared.Span.{Span}
+use Rattle.plan.specs.declared.Step.{Step}
+use Rattle.plan.specs.declared.Step.the-variants.{Patch, Gain, Matrix, Clear, Send, Output}
+use Rattle.plan.specs.declared.Counted.{Counted}
+use Rattle.plan.specs.declared.Counted.the-variants.{Channels, Refused}
 
 -- n entries of a list, each so many places after the one before it, ascend: no two are the same
 abbrev pub Ascending : ℕ → ℕ → List ℕ → Type 0
@@ -13,3 +19,20 @@ Ascending each n list = (i j : ℕ) → i < j → j < n → getD list (i * each)
 -- one span ends where another starts, or before
 abbrev pub spanBefore : Span → Span → Bool
 spanBefore s d = leb (s .start + s .len) (d .start)
+
+-- the channels that a step appends to the output, and that steps do
+abbrev pub channels : Step → ℕ
+channels (Patch i c d) = 0
+channels (Gain n s d) = 0
+channels (Matrix n s d) = 0
+channels (Clear d) = 0
+channels (Send n s d c) = 0
+channels (Output s o) = s .len
+
+unfoldable pub channelsOf : List Step → ℕ
+channelsOf [] = 0
+channelsOf (x ∷ xs) = channels x + channelsOf xs
+
+-- an answer, with the channels where it is an acceptance
+abbrev pub counted : Answer → ℕ → Counted
+counted answer n = outcome answer (Channels n) Refused

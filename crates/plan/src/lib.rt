@@ -7,10 +7,11 @@ ghost use mathlib.Core.List.{[]};
 ghost use Prim.Native.Nat.{_≤_};
 ghost use Rattle.refusal.specs.Tests.{first};
 ghost use Rattle.plan.specs.Limits.{unitLimits};
+ghost use Rattle.plan.specs.Words.{decoded};
 ghost use Rattle.plan.specs.Areas.{areas, shortLists};
 ghost use Rattle.plan.specs.Check.{stepTests, stepsTests, checked, checkPlan};
-ghost use Rattle.plan.specs.Sound.{IndexList};
-ghost use Rattle.plan.specs.Loops.{Ascending};
+ghost use Rattle.plan.specs.Sound.{IndexList, stepsOf};
+ghost use Rattle.plan.specs.Loops.{Ascending, channelsOf, counted};
 
 mod plan_tests;
 mod reader;
@@ -87,6 +88,12 @@ pub enum Read {
     Bad,
 }
 
+// The answer of a check that counts: the channels that the steps append to the output.
+pub enum Counted {
+    Channels(usize),
+    Refused(Refusal),
+}
+
 impl Plan {
     pub const MAX_BLOCK: usize = 1_024;
 
@@ -139,25 +146,59 @@ fn check_step(plan: Plan, indices: &[u32], ascending: bool, step: Step, place: u
 
 // The steps of the step words, each in turn. Requires an index list that was tested, and that ascends where it is said to, and steps within
 // their limit.
-fn check_steps(plan: Plan, indices: &[u32], ascending: bool, words: &[u32]) -> Answer
+fn check_steps(plan: Plan, indices: &[u32], ascending: bool, words: &[u32]) -> Counted
     requires { ⌜ IndexList plan (now indices) × (plan .steps ≤ unitLimits .steps) × (ascending ≡ true → Ascending 1 (plan .indices) (now indices)) ⌝ }
-    ensures { λ r. ⌜ r ≡ first (stepsTests plan (now (indices .entry)) (now (words .entry)) (plan .steps) 0 1) Answer.Accepted ⌝ }
+    ensures { λ r. ⌜ r ≡ counted (first (stepsTests plan (now (indices .entry)) (now (words .entry)) (plan .steps) 0 1) Answer.Accepted) (channelsOf (decoded (now (words .entry)) (plan .steps))) ⌝ }
 {
     let n = plan.steps;
+    let mut total = 0;
     let mut at = 0;
     let mut i = 0;
     while i < n {
         let place = (i + 1) as u32;
         let Read::Found(step, next) = read_step(words, at) else {
-            return Answer::Refused(Refusal::at(Refusal::UNREADABLE_STEP, place));
+            return Counted::Refused(Refusal::at(Refusal::UNREADABLE_STEP, place));
         };
         if let Answer::Refused(r) = check_step(plan, indices, ascending, step, place) {
-            return Answer::Refused(r);
+            return Counted::Refused(r);
         }
+        total += step_tests::step_channels(step) as usize;
         at = next;
         i += 1;
     }
-    Answer::Accepted
+    Counted::Channels(total)
+}
+
+// `check`, with the channels of the steps. Requires as it does.
+fn check_counting(
+    plan: Plan,
+    short: bool,
+    indices: &[u32],
+    node_words: &[u32],
+    steps: &[u32],
+) -> Counted
+    requires { ⌜ (short ≡ false → shortLists plan (now indices) (now «node_words») (now steps) ≡ false) ⌝ }
+    ensures { λ r. ⌜ r ≡ counted (checked plan short (now (indices .entry)) (now («node_words» .entry)) (now (steps .entry))) (channelsOf (stepsOf plan (now (steps .entry)))) ⌝ }
+{
+    if bad_block(plan.block) {
+        return Counted::Refused(Refusal::of(Refusal::BLOCK_LENGTH));
+    }
+    if over_limits(plan) {
+        return Counted::Refused(Refusal::of(Refusal::OVER_LIMIT));
+    }
+    if short {
+        return Counted::Refused(Refusal::of(Refusal::SHORT_AREA));
+    }
+    let entries = plan.indices;
+    if plan_tests::some_from(plan.buffers, &indices[..entries]) {
+        return Counted::Refused(Refusal::of(Refusal::OUTSIDE_TABLE));
+    }
+    if plan_tests::id_twice(node_words, plan.nodes) {
+        return Counted::Refused(Refusal::of(Refusal::ID_TAKEN));
+    }
+    let ascending = plan_tests::ascend(indices, entries, 1);
+    let words = plan.words;
+    check_steps(plan, indices, ascending, &steps[..words])
 }
 
 // The plan check of a call that found out by itself whether one of its areas is too short. Requires that one is where it is one of these.
@@ -165,25 +206,34 @@ pub fn check(plan: Plan, short: bool, indices: &[u32], node_words: &[u32], steps
     requires { ⌜ (short ≡ false → shortLists plan (now indices) (now «node_words») (now steps) ≡ false) ⌝ }
     ensures { λ r. ⌜ r ≡ checked plan short (now (indices .entry)) (now («node_words» .entry)) (now (steps .entry)) ⌝ }
 {
-    if bad_block(plan.block) {
-        return Answer::Refused(Refusal::of(Refusal::BLOCK_LENGTH));
+    match check_counting(plan, short, indices, node_words, steps) {
+        Counted::Channels(_) => Answer::Accepted,
+        Counted::Refused(r) => Answer::Refused(r),
     }
-    if over_limits(plan) {
-        return Answer::Refused(Refusal::of(Refusal::OVER_LIMIT));
-    }
-    if short {
-        return Answer::Refused(Refusal::of(Refusal::SHORT_AREA));
-    }
-    let entries = plan.indices;
-    if plan_tests::some_from(plan.buffers, &indices[..entries]) {
-        return Answer::Refused(Refusal::of(Refusal::OUTSIDE_TABLE));
-    }
-    if plan_tests::id_twice(node_words, plan.nodes) {
-        return Answer::Refused(Refusal::of(Refusal::ID_TAKEN));
-    }
-    let ascending = plan_tests::ascend(indices, entries, 1);
-    let words = plan.words;
-    check_steps(plan, indices, ascending, &steps[..words])
+}
+
+// The plan check of a call that is lent all six areas, with the channels of the steps.
+pub fn count_channels(
+    plan: Plan,
+    indices: &[u32],
+    coefficients: &[f32],
+    node_floats: &[f32],
+    node_words: &[u32],
+    steps: &[u32],
+    buffers: &[f32],
+) -> Counted
+    ensures { λ r. ⌜ r ≡ counted (checkPlan plan (areas (now (indices .entry)) (now (coefficients .entry)) (now («node_floats» .entry)) (now («node_words» .entry)) (now (steps .entry)) (now (buffers .entry)))) (channelsOf (stepsOf plan (now (steps .entry)))) ⌝ }
+{
+    let short = short_areas(
+        plan,
+        indices,
+        coefficients,
+        node_floats,
+        node_words,
+        steps,
+        buffers,
+    );
+    check_counting(plan, short, indices, node_words, steps)
 }
 
 // The plan check as a call of its own.
@@ -198,7 +248,7 @@ pub fn check_plan(
 ) -> Answer
     ensures { λ r. ⌜ r ≡ checkPlan plan (areas (now (indices .entry)) (now (coefficients .entry)) (now («node_floats» .entry)) (now («node_words» .entry)) (now (steps .entry)) (now (buffers .entry))) ⌝ }
 {
-    let short = short_areas(
+    match count_channels(
         plan,
         indices,
         coefficients,
@@ -206,6 +256,8 @@ pub fn check_plan(
         node_words,
         steps,
         buffers,
-    );
-    check(plan, short, indices, node_words, steps)
+    ) {
+        Counted::Channels(_) => Answer::Accepted,
+        Counted::Refused(r) => Answer::Refused(r),
+    }
 }

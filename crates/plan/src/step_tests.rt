@@ -6,12 +6,12 @@ use node::Node;
 use sets::Set;
 ghost use mathlib.Core.Path.{_≡_};
 ghost use mathlib.Core.Bool.{true, false, _||_};
-ghost use Prim.Native.Nat.{ℕ, _+_, _*_, _≤_};
+ghost use Prim.Native.Nat.{ℕ, _+_, _*_, _<_, _≤_};
 ghost use lib.ListN.{length};
 ghost use Rattle.sets.specs.Sets.{member};
 ghost use Rattle.plan.specs.Check.{someFrom, past, named, outside, used, firstOf, tooWide, has, meet, shares};
 ghost use Rattle.plan.specs.Sound.{Within, IndexList};
-ghost use Rattle.plan.specs.Loops.{Ascending, spanBefore};
+ghost use Rattle.plan.specs.Loops.{Ascending, spanBefore, channels};
 
 fn span_past(n: usize, span: Span) -> bool
     ensures { λ r. ⌜ r ≡ past n span ⌝ }
@@ -99,6 +99,37 @@ pub fn step_wide(step: Step) -> bool
             coefficients: _,
         } => false,
         Step::Output { src: _, slot: _ } => false,
+    }
+}
+
+// The channels that a step appends to the output.
+pub(crate) fn step_channels(step: Step) -> u32
+    ensures { λ r. ⌜ (r ≡ channels step) × (r < 4294967296) ⌝ }
+{
+    match step {
+        Step::Patch {
+            input: _,
+            channel: _,
+            dst: _,
+        } => 0,
+        Step::Gain {
+            node: _,
+            src: _,
+            dst: _,
+        } => 0,
+        Step::Matrix {
+            node: _,
+            src: _,
+            dst: _,
+        } => 0,
+        Step::Clear { dst: _ } => 0,
+        Step::Send {
+            node: _,
+            src: _,
+            dst: _,
+            coefficients: _,
+        } => 0,
+        Step::Output { src, slot: _ } => src.len,
     }
 }
 

@@ -6,8 +6,6 @@ pub mod Input
 pub mod Setting
 -- the answers of the admission, and what an accepted run says
 pub mod Admission
--- the channels of the output, step by step
-pub mod Counting
 -- what the plan check said of a step, as the sample loops ask for it
 pub mod Fits
 -- which steps write samples, and how many

@@ -31,14 +31,6 @@ no-output (Send n s d c) h = refl
 no-output (Output s o) h =
     ⊎-elim (λ e. absurd (omega arith)) (⊎-elim (λ e. absurd (omega arith)) (⊎-elim (λ e. absurd (omega arith)) (⊎-elim (λ e. absurd (omega arith)) (λ e. absurd (omega arith))))) h
 
-pub no-channels : (x : Step) → isOutput x ≡ false → 0 ≡ channels x
-no-channels (Patch i c d) h = refl
-no-channels (Gain n s d) h = refl
-no-channels (Matrix n s d) h = refl
-no-channels (Clear d) h = refl
-no-channels (Send n s d c) h = refl
-no-channels (Output s o) h = absurd (true≢false h)
-
 pub output-room : {x : Step} (s : Span) (o block w n : ℕ) → x ≡ Output s o → w + channels x * block ≤ n → w + s .len * block ≤ n
 output-room s o block w n e h = rw e at h
 

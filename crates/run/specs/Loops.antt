@@ -17,17 +17,11 @@ use Rattle.plan.specs.declared.Step.{Step}
 use Rattle.plan.specs.declared.Step.the-variants.{Patch, Gain, Matrix, Clear, Send, Output}
 use Rattle.plan.specs.Limits.{maxBlock, unitLimits}
 use Rattle.plan.specs.Sound.{Within, Inside, Narrow, Apart, IndexList}
+pub use Rattle.plan.specs.Loops.{channels}
+unfoldable pub use Rattle.plan.specs.Loops.{channelsOf}
 use Rattle.run.specs.Run.{State}
 
 -- ---- the output
-
-abbrev pub channels : Step → ℕ
-channels (Patch i c d) = 0
-channels (Gain n s d) = 0
-channels (Matrix n s d) = 0
-channels (Clear d) = 0
-channels (Send n s d c) = 0
-channels (Output s o) = s .len
 
 abbrev pub isOutput : Step → Bool
 isOutput (Patch i c d) = false
@@ -36,10 +30,6 @@ isOutput (Matrix n s d) = false
 isOutput (Clear d) = false
 isOutput (Send n s d c) = false
 isOutput (Output s o) = true
-
-unfoldable pub channelsOf : List Step → ℕ
-channelsOf [] = 0
-channelsOf (x ∷ xs) = channels x + channelsOf xs
 
 -- ---- what the tests said
 

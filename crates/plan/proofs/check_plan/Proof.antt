@@ -1,27 +1,24 @@
--- `plan::check_plan` meets its contract: a call that is lent all six areas is lent the three that `check` reads. Assumes nothing.
-use mathlib.Core.Path.{sym, ap, _∙_}
-use mathlib.Core.Bool.{Bool}
+-- `plan::check_plan` meets its contract: it is the answer of the check that counts, without the channels. Assumes nothing.
+use mathlib.Core.Path.{sym, _∙_}
 use borrow.Author.Needs.{needs}
-use Rattle.plan.specs.Areas.{areas}
-use Rattle.plan.specs.Check.{checked}
-use Rattle.plan.proofs.Plans.{areas-lists}
+use Rattle.plan.proofs.Answers.{was-accepted, was-refused}
 use Rattle.plan.proofs.check_plan.Statement.{statement}
 use Rattle.plan.proofs.check_plan.Tie as tie
 
-short-areas-requires : tie.Need-short-areas-requires
-short-areas-requires c κs = search needs
+count-channels-requires : tie.Need-count-channels-requires
+count-channels-requires c κs = search needs
 
-check-requires : tie.Need-check-requires
-check-requires c κs e =
-    let a = c .before .before .before .before .before .before .before .args in
-    areas-lists (a .plan) (areas (a .indices .now) (a .coefficients .now) (a .node-floats .now) (a .node-words .now) (a .steps .now) (a .buffers .now))
-    (sym (c .short-areas .ensures) ∙ e)
+enum-told : tie.Need-enum-told
+enum-told c = search needs
+
+enum-known-r : tie.Need-enum-known-r
+enum-known-r c = search needs
 
 returns : tie.Need-returns
-returns c =
-    let a = c .before .before .before .before .before .before .before .before .args in
-    c .check .ensures
-    ∙ ap (λ (short : Bool). checked (a .plan) short (a .indices .now) (a .node-words .now) (a .steps .now)) (c .before .short-areas .ensures)
+returns c = sym (was-accepted _ _ _ (sym (c .enum-told .given .1) ∙ c .before .before .count-channels .ensures) .0)
+
+returns-2 : tie.Need-returns-2
+returns-2 c = sym (was-refused _ _ _ (sym (c .before .r .given .1) ∙ c .before .before .before .count-channels .ensures))
 
 pub check-plan-spec : {M : Type 1} → statement M
-check-plan-spec = tie.close (tie.spec short-areas-requires check-requires returns)
+check-plan-spec = tie.close (tie.spec count-channels-requires enum-told enum-known-r returns returns-2)

@@ -1,15 +1,15 @@
 -- The channels that the steps append to the output, counted step by step. Assumes nothing.
 use mathlib.Core.Path.{_≡_, sym, ap, _∙_}
-use mathlib.Core.List.{List, []}
+use mathlib.Core.List.{List}
 use Prim.Native.Nat.{ℕ, _+_, _-_, _*_, _≤_, _<_}
 use native.Mathlib.Nat.{sub-zero}
 use native.Mathlib.Omega.{arith}
 use Rattle.plan.specs.declared.Step.{Step}
-use Rattle.plan.specs.declared.Read.the-variants.{Found, Bad}
+use Rattle.plan.specs.declared.Read.the-variants.{Found}
 use Rattle.plan.specs.Words.{readAt, decodedFrom, decoded}
 use Rattle.plan.proofs.Answers.{rest-of}
-use Rattle.plan.proofs.Words.{decoded-on, decoded-bad, decoded-none}
-use Rattle.run.specs.Loops.{channels, channelsOf}
+use Rattle.plan.proofs.Words.{decoded-on, decoded-none}
+use Rattle.plan.specs.Loops.{channels, channelsOf}
 
 -- i of n steps are behind, and have `total` channels
 pub record Counting (w : List ℕ) (n total at i : ℕ) : Type 0 where
@@ -33,12 +33,6 @@ module _ (w : List ℕ) (n : ℕ) where
           so = c .so ∙ ap (λ (l : List Step). total + channelsOf l) (decoded-on w at (rest-of h) r) ∙ omega arith;
         }
 
-    ended : decodedFrom w (n - i) at ≡ [] → (total ≡ channelsOf (decoded w n)) × (total ≤ n * 4294967296)
+    pub counting-ends : n ≤ i → total ≡ channelsOf (decoded w n)
     unfolding channelsOf
-    ended e = (sym (c .so ∙ ap (λ (l : List Step). total + channelsOf l) e ∙ omega arith), omega (arith, c .small, c .turns))
-
-    pub counting-bad : i < n → readAt w at ≡ Bad → (total ≡ channelsOf (decoded w n)) × (total ≤ n * 4294967296)
-    counting-bad h r = ended (decoded-bad w at (rest-of h) r)
-
-    pub counting-ends : n ≤ i → (total ≡ channelsOf (decoded w n)) × (total ≤ n * 4294967296)
-    counting-ends h = ended (decoded-none w at {left = n - i} (omega arith))
+    counting-ends h = sym (c .so ∙ ap (λ (l : List Step). total + channelsOf l) (decoded-none w at {left = n - i} (omega arith)) ∙ omega arith)
