@@ -1,4 +1,4 @@
--- What an adoption's answer says of the tests, and what the call leaves by it. Assumes nothing.
+-- Which test of an adoption answers, what an accepted one says, and what the call leaves by its answer. Assumes nothing.
 use mathlib.Core.Path.{_≡_}
 use mathlib.Core.Bool.{Bool, true, false, _||_}
 use mathlib.Core.List.{List}

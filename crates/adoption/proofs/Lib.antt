@@ -1,13 +1,15 @@
 -- Laws that belong to no one function, for the crates above too.
 
--- what an adoption's answer says, and what the call leaves by it
+-- which test answers, what an accepted adoption says, and what the call leaves by its answer
 pub mod Answers
 -- the node that a pair makes
 pub mod Adopted
--- one pair, and the list of pairs turn by turn
+-- one pair, and the list of pairs from one on
 pub mod Pairs
 -- what the pairs keep
 pub mod Kept
+-- the loop over the pairs
+pub mod Turns
 -- the nodes that pairs name
 pub mod Named
 -- what an adoption leaves, accepted or refused

@@ -1,11 +1,11 @@
--- One pair of an adoption, skipped or not, what the tests said and it keeps, and the list of pairs turn by turn. Assumes nothing.
+-- One pair of an adoption, skipped or not, after which its tests still pass, and the list of pairs from one on. Assumes nothing.
 use mathlib.Core.Path.{_≡_, refl, sym, ap, _∙_}
 use mathlib.Core.Bool.{Bool, true, false, not, _||_}
 use mathlib.Core.List.{List, [], _∷_}
-use Prim.Native.Nat.{ℕ, suc, _+_, _*_, _<_, _≤_}
+use Prim.Native.Nat.{ℕ, suc, _+_, _<_, _≤_}
 use native.Mathlib.Nat.{not-suc-le-zero, le-of-suc-le-suc}
 use native.Mathlib.Omega.{arith}
-use lib.ListN.{length, getD, drop, length-drop}
+use lib.ListN.{length, getD, drop}
 use lib.Seq.{drop-cons}
 use lib.Ieee.{Float}
 use lib.Dec.{leb, eqb}
@@ -87,15 +87,6 @@ module _ (new old : Lent) (n o : ℕ) where
         go true e = rw (pair-skipped e) p
         go false e = rw (pair-taken (not-taken e)) (q (not-taken e))
 
-    pub pair-count : pairAdopted old ramp n o new .count ≡ new .count
-    pair-count = of-pair (λ (l : Lent). l .count ≡ new .count) refl (λ _. refl)
-
-    pub pair-floats : length (pairAdopted old ramp n o new .floats) ≡ length (new .floats)
-    pair-floats = of-pair (λ (l : Lent). length (l .floats) ≡ length (new .floats)) refl (λ _. length-stored-floats (new .floats) n _)
-
-    pub pair-words : length (pairAdopted old ramp n o new .words) ≡ length (new .words)
-    pair-words = of-pair (λ (l : Lent). length (l .words) ≡ length (new .words)) refl (λ _. length-stored-words (new .words) n _)
-
 -- ---- the node of a pair that is not skipped
 module _ {new old : Lent} {ramp n o : ℕ} (f : Fit new old ramp) (t : Taken new old n o) where
   pub new-room : Room (n + 1) (new .floats) (new .words)
@@ -145,36 +136,3 @@ module _ (old : Lent) (ramp : ℕ) where
       ap (λ (l : List ℕ). pairsAdopted old ramp l new) (a ∙ ap (λ (l : List ℕ). getD pairs i 0 ∷ l) b)
       ∙ ap (λ (j : ℕ). pairsAdopted old ramp (drop (suc (suc i)) pairs) (pairAdopted old ramp (getD pairs i 0) (getD pairs j 0) new)) p
       ∙ ap (λ (j : ℕ). pairsAdopted old ramp (drop j pairs) (pairAdopted old ramp (getD pairs i 0) (getD pairs (i + 1) 0) new)) q
-
--- what holds between two pairs: `new` is what the first k pairs made of `start`
-pub record Going (start old : Lent) (pairs : List ℕ) (ramp k : ℕ) (new : Lent) : Type 0 where
-  pub fit : Fit new old ramp
-  pub floats : length (new .floats) ≡ length (start .floats)
-  pub words : length (new .words) ≡ length (start .words)
-  pub so : pairsAdopted old ramp (drop (2 * k) pairs) new ≡ pairsAdopted old ramp pairs start
-
-pub going-starts : {start old : Lent} (pairs : List ℕ) {ramp : ℕ} → Fit start old ramp → Going start old pairs ramp 0 start
-going-starts pairs f = record { fit = f; floats = refl; words = refl; so = refl }
-
--- one more pair, whose areas the code made
-pub going-on : (start old : Lent) (pairs : List ℕ) (ramp : ℕ) {k : ℕ} {new : Lent} → Going start old pairs ramp k new → 2 * k + 1 < length pairs
-    → {floats : List Float} {words : List ℕ}
-    → (let after = pairAdopted old ramp (getD pairs (2 * k) 0) (getD pairs (2 * k + 1) 0) new in floats ≡ after .floats → words ≡ after .words
-    → Going start old pairs ramp (k + 1) (lent (new .count) floats words))
-going-on start old pairs ramp {k} {new} g h p q =
-    let n = getD pairs (2 * k) 0 in
-    let o = getD pairs (2 * k + 1) 0 in
-    let next : 2 * (k + 1) ≡ 2 * k + 2 = omega arith in
-    rw (lent-same (pairAdopted old ramp n o new) (sym (pair-count new old n o ramp)) p q)
-    (record {
-      fit = pair-fit n o (g .fit);
-      floats = pair-floats new old n o ramp ∙ g .floats;
-      words = pair-words new old n o ramp ∙ g .words;
-      so = ap (λ (j : ℕ). pairsAdopted old ramp (drop j pairs) (pairAdopted old ramp n o new)) next ∙ sym (pairs-more old ramp pairs (2 * k) new h) ∙ g .so;
-    })
-
-pub going-ends : {start old : Lent} {pairs : List ℕ} {ramp k : ℕ} {new : Lent} → Going start old pairs ramp k new → length pairs ≤ 2 * k + 1
-    → new ≡ pairsAdopted old ramp pairs start
-going-ends {start} {old} {pairs} {ramp} {k} {new} g h =
-    let e : length (drop (2 * k) pairs) ≤ 1 = rw length-drop (omega arith) in
-    sym (pairs-none old ramp (drop (2 * k) pairs) new e) ∙ g .so

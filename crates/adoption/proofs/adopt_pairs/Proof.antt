@@ -4,7 +4,7 @@ use Prim.Native.Nat.{_+_, _-_, _*_, _≤_}
 use native.Mathlib.Omega.{arith}
 use borrow.Author.Needs.{needs}
 use Rattle.adoption.specs.Adoption.{Lent, lent}
-use Rattle.adoption.proofs.Pairs.{Going, going-starts, going-on, going-ends}
+use Rattle.adoption.proofs.Turns.{Going, going-starts, going-on, going-ends}
 use Rattle.adoption.proofs.adopt_pairs.Statement.{statement}
 use Rattle.adoption.proofs.adopt_pairs.Tie as tie
 
@@ -64,10 +64,10 @@ loop-again c =
     (omega arith, going-on start old (a .pairs .now) (a .ramp) (l .inv .1) (omega arith) (k .0) (k .1))
 
 same-length : tie.Need-same-length Inv-loop μ-loop
-same-length c = c .before .loop .inv .1 .floats
+same-length c = c .before .loop .inv .1 .kept .floats
 
 same-length-2 : tie.Need-same-length-2 Inv-loop μ-loop
-same-length-2 c = c .before .loop .inv .1 .words
+same-length-2 c = c .before .loop .inv .1 .kept .words
 
 returns : tie.Need-returns Inv-loop μ-loop
 returns c =
