@@ -32,40 +32,9 @@ pub fn traced() {
     let mut node_words = [0u32; 3];
     let mut steps = [0u32; 19];
     let mut buffers = [0.0f32; 2];
-    let plan = plans::laid_out(
-        1,
-        2,
-        &[0.0],
-        &[0.0],
-        0,
-        &[
-            7,
-            3,
-            0,
-            0,
-            192,
-            1,
-            1,
-            1016,
-            0,
-            0,
-            1,
-            1,
-            1,
-            0,
-            1,
-            1072,
-            1,
-            1,
-            2,
-        ],
-        &mut indices,
-        &mut coefficients,
-        &mut node_floats,
-        &mut node_words,
-        &mut steps,
-        &mut buffers,
-    );
+    let plan = plans::begun(1, 2, &[0.0], &mut indices, &mut coefficients);
+    let plan = plans::with_node(plan, &[0.0], 0, &mut node_floats, &mut node_words);
+    let plan = plans::finished(plan, &plans::SEND, &mut steps, &mut buffers);
     slots(plan, &indices, &node_words, &steps);
 }
 

@@ -1,7 +1,6 @@
 // Cases 7, 9 and 10: the rounding, a fold and a balance.
 use crate::text;
 use fold::FoldGains;
-use format::Format;
 use refusal::Answer;
 
 // Case 7.

@@ -1,4 +1,4 @@
-// Plans laid out by the builder calls. A call that is refused says so on the standard output.
+// A plan laid out call by call, each of which hands on the plan. A call that is refused says so on the standard output.
 use crate::text;
 use builder::NumberAnswer;
 use builder::PlanBuilder;
@@ -8,6 +8,29 @@ use refusal::Answer;
 
 // The id of a plan's only node.
 pub const ID: u32 = 7;
+
+// Patch 3 to buffer 0, Clear 1, Send 0 to 1, Output 1 to slot 2.
+pub const SEND: [u32; 19] = [
+    7,
+    3,
+    0,
+    0,
+    192,
+    1,
+    1,
+    1016,
+    0,
+    0,
+    1,
+    1,
+    1,
+    0,
+    1,
+    1072,
+    1,
+    1,
+    2,
+];
 
 fn span_refused(answer: SpanAnswer) {
     if let SpanAnswer::Refused(r) = answer {
@@ -21,7 +44,28 @@ fn number_refused(answer: NumberAnswer) {
     }
 }
 
-fn with_node(
+// An empty plan with n buffers and the weights as coefficients.
+pub fn begun(
+    block: usize,
+    n: usize,
+    weights: &[f32],
+    indices: &mut [u32],
+    coefficients: &mut [f32],
+) -> Plan {
+    let empty = PlanBuilder::new(block);
+    let answer = empty.answer;
+    text::refused(answer);
+    let spanned = PlanBuilder::buffers(empty.plan, n, indices);
+    let answer = spanned.answer;
+    span_refused(answer);
+    let weighted = PlanBuilder::coefficients(spanned.plan, weights, coefficients);
+    let answer = weighted.answer;
+    span_refused(answer);
+    weighted.plan
+}
+
+// The plan with a node that ramps to the values.
+pub fn with_node(
     plan: Plan,
     values: &[f32],
     ramp: u32,
@@ -52,49 +96,10 @@ fn stepped(plan: Plan, records: &[u32], steps: &mut [u32]) -> Plan {
     plan
 }
 
-fn finished(plan: Plan, buffers: &mut [f32]) -> Plan {
-    let grown = PlanBuilder::finish(plan, buffers);
+// The plan with the steps of the records, ready to run.
+pub fn finished(plan: Plan, records: &[u32], steps: &mut [u32], buffers: &mut [f32]) -> Plan {
+    let grown = PlanBuilder::finish(stepped(plan, records, steps), buffers);
     let answer = grown.answer;
     text::refused(answer);
     grown.plan
-}
-
-// n buffers, with the weights as coefficients.
-fn begun(
-    block: usize,
-    n: usize,
-    weights: &[f32],
-    indices: &mut [u32],
-    coefficients: &mut [f32],
-) -> Plan {
-    let empty = PlanBuilder::new(block);
-    let answer = empty.answer;
-    text::refused(answer);
-    let spanned = PlanBuilder::buffers(empty.plan, n, indices);
-    let answer = spanned.answer;
-    span_refused(answer);
-    let weighted = PlanBuilder::coefficients(spanned.plan, weights, coefficients);
-    let answer = weighted.answer;
-    span_refused(answer);
-    weighted.plan
-}
-
-// A plan of n buffers, with the weights as coefficients, a node that ramps to the values, and the steps of the records.
-pub fn laid_out(
-    block: usize,
-    n: usize,
-    weights: &[f32],
-    values: &[f32],
-    ramp: u32,
-    records: &[u32],
-    indices: &mut [u32],
-    coefficients: &mut [f32],
-    node_floats: &mut [f32],
-    node_words: &mut [u32],
-    steps: &mut [u32],
-    buffers: &mut [f32],
-) -> Plan {
-    let plan = begun(block, n, weights, indices, coefficients);
-    let plan = with_node(plan, values, ramp, node_floats, node_words);
-    finished(stepped(plan, records, steps), buffers)
 }

@@ -4,6 +4,9 @@ use crate::text;
 use plan::Plan;
 use run::Ran;
 
+// Patch 0 to buffer 0, Gain from 0 to 1, Output 1 to slot 0.
+const THROUGH_GAIN: [u32; 14] = [7, 0, 0, 0, 248, 0, 0, 1, 1, 1, 1072, 1, 1, 0];
+
 // One run, and how many samples it wrote; a refusal writes its number on the standard output.
 fn ran(
     plan: Plan,
@@ -76,6 +79,41 @@ fn over_ones(
     text::samples(&output, n, b", ");
 }
 
+// What two runs over ones wrote, and whether the node is at rest then.
+fn twice(
+    plan: Plan,
+    indices: &[u32],
+    coefficients: &[f32],
+    node_floats: &mut [f32],
+    node_words: &mut [u32],
+    steps: &[u32],
+    buffers: &mut [f32],
+    directory: &[u32],
+) {
+    over_ones(
+        plan,
+        indices,
+        coefficients,
+        node_floats,
+        node_words,
+        steps,
+        buffers,
+        directory,
+    );
+    text::put(b", then ");
+    over_ones(
+        plan,
+        indices,
+        coefficients,
+        node_floats,
+        node_words,
+        steps,
+        buffers,
+        directory,
+    );
+    rest(&node_words[..]);
+}
+
 // Cases 1 and 2: two runs over ones of a Gain of [1] with a ramp of 4.
 pub fn ramped(block: usize, directory: &[u32]) {
     let mut indices = [0u32; 2];
@@ -84,21 +122,10 @@ pub fn ramped(block: usize, directory: &[u32]) {
     let mut node_words = [0u32; 3];
     let mut steps = [0u32; 14];
     let mut buffers = [0.0f32; 6];
-    let plan = plans::laid_out(
-        block,
-        2,
-        &[],
-        &[1.0],
-        4,
-        &[7, 0, 0, 0, 248, 0, 0, 1, 1, 1, 1072, 1, 1, 0],
-        &mut indices,
-        &mut coefficients,
-        &mut node_floats,
-        &mut node_words,
-        &mut steps,
-        &mut buffers,
-    );
-    over_ones(
+    let plan = plans::begun(block, 2, &[], &mut indices, &mut coefficients);
+    let plan = plans::with_node(plan, &[1.0], 4, &mut node_floats, &mut node_words);
+    let plan = plans::finished(plan, &THROUGH_GAIN, &mut steps, &mut buffers);
+    twice(
         plan,
         &indices,
         &coefficients,
@@ -108,18 +135,6 @@ pub fn ramped(block: usize, directory: &[u32]) {
         &mut buffers,
         directory,
     );
-    text::put(b", then ");
-    over_ones(
-        plan,
-        &indices,
-        &coefficients,
-        &mut node_floats,
-        &mut node_words,
-        &steps,
-        &mut buffers,
-        directory,
-    );
-    rest(&node_words);
 }
 
 fn set(plan: Plan, values: &[f32], node_floats: &mut [f32], node_words: &mut [u32]) {
@@ -147,20 +162,9 @@ fn once(
     let mut node_words = [0u32; 3];
     let mut steps = [0u32; 19];
     let mut buffers = [0.0f32; 4];
-    let plan = plans::laid_out(
-        1,
-        n,
-        weights,
-        values,
-        ramp,
-        records,
-        &mut indices,
-        &mut coefficients,
-        &mut node_floats,
-        &mut node_words,
-        &mut steps,
-        &mut buffers,
-    );
+    let plan = plans::begun(1, n, weights, &mut indices, &mut coefficients);
+    let plan = plans::with_node(plan, values, ramp, &mut node_floats, &mut node_words);
+    let plan = plans::finished(plan, records, &mut steps, &mut buffers);
     set(plan, setting, &mut node_floats, &mut node_words);
     ran(
         plan,
@@ -218,7 +222,7 @@ pub fn gain_of_zero() {
         &[],
         &[0.0],
         0,
-        &[7, 0, 0, 0, 248, 0, 0, 1, 1, 1, 1072, 1, 1, 0],
+        &THROUGH_GAIN,
         &[],
         &[0, 0, 0, 1],
         &[1.0 / 0.0],
@@ -252,29 +256,9 @@ pub fn send(ramp: u32) {
         &[0.0009765625],
         &[1048576.0],
         ramp,
-        &[
-            7,
-            0,
-            0,
-            0,
-            192,
-            1,
-            1,
-            1016,
-            0,
-            0,
-            1,
-            1,
-            1,
-            0,
-            1,
-            1072,
-            1,
-            1,
-            0,
-        ],
+        &plans::SEND,
         &[],
-        &[0, 0, 0, 1],
+        &[3, 0, 0, 1],
         &[7.1746481373430634e-43],
         &mut output,
     );

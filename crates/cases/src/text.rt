@@ -17,7 +17,7 @@ pub fn put(text: &[u8]) {
     io::write_all(STDOUT_FILENO, text);
 }
 
-pub fn whole(n: u64) {
+fn whole(n: u64) {
     io::print_decimal(STDOUT_FILENO, n);
 }
 
