@@ -1,7 +1,15 @@
 -- `mixer::replies::clean_reply` meets its contract. Assumes nothing.
 use borrow.Author.Needs.{needs}
+use mathlib.Core.Path.{sym, ap, _∙_}
+use mathlib.Core.Bool.{Bool, true, false}
+use Rattle.mixer.specs.declared.Status.{Status}
+use Rattle.mixer.specs.declared.CleanReply.{CleanReply}
+use Rattle.mixer.specs.Replies.{cleanReply}
 use Rattle.mixer.proofs.replies.clean_reply.Statement.{statement}
 use Rattle.mixer.proofs.replies.clean_reply.Tie as tie
+
+abbrev said : Status → Bool → CleanReply
+said s clean = record { status = s; clean = clean }
 
 enum-told : tie.Need-enum-told
 enum-told c = search needs
@@ -22,13 +30,13 @@ refused-requires : tie.Need-refused-requires
 refused-requires c κs = search needs
 
 returns : tie.Need-returns
-returns c = cc
+returns c = ap (λ (s : Status). said s true) (c .accepted .ensures) ∙ sym (ap cleanReply (c .before .enum-told .given .1))
 
 returns-2 : tie.Need-returns-2
-returns-2 c = cc
+returns-2 c = ap (λ (s : Status). said s false) (c .accepted2 .ensures) ∙ sym (ap cleanReply (c .before .enum-told2 .given .1))
 
 returns-3 : tie.Need-returns-3
-returns-3 c = cc
+returns-3 c = ap (λ (s : Status). said s false) (c .refused .ensures) ∙ sym (ap cleanReply (c .before .before .answer .given .1))
 
 pub clean-reply-spec : {M : Type 1} → statement M
 clean-reply-spec =

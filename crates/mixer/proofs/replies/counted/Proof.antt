@@ -7,7 +7,7 @@ accepted-requires : tie.Need-accepted-requires
 accepted-requires c κs = search needs
 
 returns : tie.Need-returns
-returns c = cc
+returns c = λ i. record { status = c .accepted .ensures i; count = c .before .args .count }
 
 pub counted-spec : {M : Type 1} → statement M
 counted-spec = tie.close (tie.spec accepted-requires returns)

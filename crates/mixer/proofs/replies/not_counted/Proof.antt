@@ -7,7 +7,7 @@ refused-requires : tie.Need-refused-requires
 refused-requires c κs = search needs
 
 returns : tie.Need-returns
-returns c = cc
+returns c = λ i. record { status = c .refused .ensures i; count = 0 }
 
 pub not-counted-spec : {M : Type 1} → statement M
 not-counted-spec = tie.close (tie.spec refused-requires returns)

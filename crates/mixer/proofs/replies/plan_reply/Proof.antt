@@ -7,7 +7,7 @@ status-of-requires : tie.Need-status-of-requires
 status-of-requires c κs = search needs
 
 returns : tie.Need-returns
-returns c = cc
+returns c = λ i. record { status = c .status-of .ensures i; plan = c .before .args .plan }
 
 pub plan-reply-spec : {M : Type 1} → statement M
 plan-reply-spec = tie.close (tie.spec status-of-requires returns)

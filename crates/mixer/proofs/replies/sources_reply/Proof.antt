@@ -1,5 +1,7 @@
 -- `mixer::replies::sources_reply` meets its contract. Assumes nothing.
 use borrow.Author.Needs.{needs}
+use mathlib.Core.Path.{sym, ap, _∙_}
+use Rattle.mixer.specs.Replies.{sourcesReply}
 use Rattle.mixer.proofs.replies.sources_reply.Statement.{statement}
 use Rattle.mixer.proofs.replies.sources_reply.Tie as tie
 
@@ -19,10 +21,10 @@ not-counted-requires : tie.Need-not-counted-requires
 not-counted-requires c κs = search needs
 
 returns : tie.Need-returns
-returns c = cc
+returns c = c .counted .ensures ∙ sym (ap sourcesReply (c .before .before .answer .given .1))
 
 returns-2 : tie.Need-returns-2
-returns-2 c = cc
+returns-2 c = c .not-counted .ensures ∙ sym (ap sourcesReply (c .before .before .answer2 .given .1))
 
 pub sources-reply-spec : {M : Type 1} → statement M
 sources-reply-spec =

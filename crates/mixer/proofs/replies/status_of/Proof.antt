@@ -1,5 +1,7 @@
 -- `mixer::replies::status_of` meets its contract. Assumes nothing.
 use borrow.Author.Needs.{needs}
+use mathlib.Core.Path.{sym, ap, _∙_}
+use Rattle.mixer.specs.Replies.{statusOf}
 use Rattle.mixer.proofs.replies.status_of.Statement.{statement}
 use Rattle.mixer.proofs.replies.status_of.Tie as tie
 
@@ -19,7 +21,7 @@ returns : tie.Need-returns
 returns c = search needs
 
 returns-2 : tie.Need-returns-2
-returns-2 c = cc
+returns-2 c = c .refused .ensures ∙ sym (ap statusOf (c .before .before .answer .given .1))
 
 pub status-of-spec : {M : Type 1} → statement M
 status-of-spec =

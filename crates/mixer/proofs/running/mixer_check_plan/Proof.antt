@@ -1,5 +1,7 @@
 -- `mixer::running::mixer_check_plan` meets its contract. Assumes nothing.
 use borrow.Author.Needs.{needs}
+use mathlib.Core.Path.{ap, _∙_}
+use Rattle.mixer.specs.Replies.{statusOf}
 use Rattle.mixer.proofs.running.mixer_check_plan.Statement.{statement}
 use Rattle.mixer.proofs.running.mixer_check_plan.Tie as tie
 
@@ -10,7 +12,7 @@ status-of-requires : tie.Need-status-of-requires
 status-of-requires c κs = search needs
 
 returns : tie.Need-returns
-returns c = cc
+returns c = c .status-of .ensures ∙ ap statusOf (c .before .check-plan .ensures)
 
 pub mixer-check-plan-spec : {M : Type 1} → statement M
 mixer-check-plan-spec = tie.close (tie.spec check-plan-requires status-of-requires returns)

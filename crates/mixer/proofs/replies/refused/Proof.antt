@@ -1,0 +1,10 @@
+-- `mixer::replies::refused` meets its contract. Assumes nothing.
+use mathlib.Core.Path.{refl}
+use Rattle.mixer.proofs.replies.refused.Statement.{statement}
+use Rattle.mixer.proofs.replies.refused.Tie as tie
+
+returns : tie.Need-returns
+returns c = refl
+
+pub refused-spec : {M : Type 1} → statement M
+refused-spec = tie.close (tie.spec returns)
