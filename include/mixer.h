@@ -39,7 +39,7 @@ enum mixer_number {
     MIXER_BLOCK_LENGTH = 1,    /* a block outside 1 to 1,024 */
     MIXER_SHORT_AREA = 2,      /* an area shorter than the call needs */
     MIXER_UNREADABLE_STEP = 3, /* a map that is none of mixer_map, or a map or field past the end of the step words */
-    MIXER_OUTSIDE_TABLE = 4,   /* a span, buffer, index entry, node, input or slot outside its table, or a Send with more weights than its coefficient span */
+    MIXER_OUTSIDE_TABLE = 4,   /* a span, buffer, index entry, node, input or slot outside its table, or a Send whose coefficients are too few */
     MIXER_OVER_LIMIT = 5,      /* a count above its limit */
     MIXER_SHARED_BUFFER = 6,   /* a Gain (its used channels), Matrix or Send with one buffer in both src and dst */
     MIXER_TOO_MANY_VALUES = 7, /* a node or a Gain of more than 24 values, or a Matrix of more than 24 entries */
