@@ -1,0 +1,164 @@
+//! Comparison: the first difference ends a run. A planted fault changes what the reference says, so that a run must find it.
+use crate::mixer::Status;
+use std::fmt::Debug;
+
+/// The first difference, in words.
+pub type Found = Result<(), String>;
+
+pub fn same<T: PartialEq + Debug + ?Sized>(what: &str, reference: &T, port: &T) -> Found {
+    if reference == port {
+        return Ok(());
+    }
+    Err(format!("{what}: reference {reference:?}, port {port:?}"))
+}
+
+/// A list of words, or of anything that has bits: the same ones, one by one.
+pub fn words<T: PartialEq + std::fmt::LowerHex>(what: &str, reference: &[T], port: &[T]) -> Found {
+    same(&format!("length of {what}"), &reference.len(), &port.len())?;
+    match reference.iter().zip(port).position(|(x, y)| x != y) {
+        Some(i) => Err(format!("{what}[{i}]: reference {:#x}, port {:#x}", reference[i], port[i])),
+        None => Ok(()),
+    }
+}
+
+fn first_unlike(what: &str, reference: &[f32], port: &[f32], alike: impl Fn(f32, f32) -> bool) -> Found {
+    if reference.len() != port.len() {
+        return Err(format!("length of {what}: reference {}, port {}", reference.len(), port.len()));
+    }
+    match reference.iter().zip(port).position(|(x, y)| !alike(*x, *y)) {
+        Some(i) => {
+            let (x, y) = (reference[i], port[i]);
+            Err(format!("{what}[{i}]: reference {x:?} ({:#010x}), port {y:?} ({:#010x})", x.to_bits(), y.to_bits()))
+        }
+        None => Ok(()),
+    }
+}
+
+/// Floats that both sides worked out: NaN for NaN, else bit for bit.
+pub fn floats(what: &str, reference: &[f32], port: &[f32]) -> Found {
+    first_unlike(what, reference, port, |x, y| x.to_bits() == y.to_bits() || (x.is_nan() && y.is_nan()))
+}
+
+/// Floats that nobody may touch: bit for bit, those of NaNs too.
+pub fn untouched(what: &str, before: &[f32], after: &[f32]) -> Found {
+    first_unlike(what, before, after, |x, y| x.to_bits() == y.to_bits())
+}
+
+pub fn doubles(what: &str, reference: &[f64], port: &[f64]) -> Found {
+    let one = |x: &f64| if x.is_nan() { f64::NAN.to_bits() } else { x.to_bits() };
+    words(what, &reference.iter().map(one).collect::<Vec<_>>(), &port.iter().map(one).collect::<Vec<_>>())
+}
+
+macro_rules! faults {
+    ($($name:ident: $text:literal,)*) => {
+        /// What can be planted.
+        #[derive(Clone, Copy, Debug, PartialEq, Eq)]
+        pub enum Fault {
+            $($name),*
+        }
+
+        pub const FAULTS: &[(Fault, &str)] = &[$((Fault::$name, $text)),*];
+    };
+}
+
+faults! {
+    OutputBit: "the last bit of an output sample",
+    OutputSign: "the sign of a zero in an output",
+    OutputNan: "a number where an output sample is NaN",
+    OutputCount: "one output sample more",
+    BufferBit: "the last bit of a sample in a buffer",
+    Cur: "the last bit of a node's cur",
+    Target: "the last bit of a node's target",
+    Step: "the last bit of a node's step",
+    Left: "a node's left off by one",
+    Id: "a node's id",
+    Len: "a node's len",
+    BehindCounts: "a word behind the entries that a plan counts",
+    SourceMore: "a source list with one input more",
+    SourceLess: "a source list with one input less",
+    SourceOther: "a source list with another input",
+    SlotMore: "one slot more",
+    Clean: "the other clean answer",
+    BuiltSpan: "the start of a builder's span",
+    BuiltNode: "a builder's node number",
+    BuiltCount: "a count in a builder's record",
+    BuiltWord: "a word of a step's record",
+    BuiltWeight: "the last bit of a coefficient",
+    BuiltIndex: "an index entry",
+    OldNode: "a node of the old plan after an adoption",
+    Part: "a looked-up part that is one sample shorter",
+    Number: "a refusal's number",
+    Place: "a refusal's place",
+    Accepted: "an acceptance in place of a refusal",
+    KeptIndices: "a bit of the index list after a refused call",
+    KeptCoefficients: "a bit of the coefficients after a refused call",
+    KeptFloats: "a bit of the node floats after a refused call",
+    KeptWords: "a bit of the node words after a refused call",
+    KeptSteps: "a bit of the step words after a refused call",
+    KeptBuffers: "a bit of the buffers after a refused call",
+    KeptAnswer: "a bit of the area for the answer after a refused call",
+    FoldBit: "the last bit of a fold's entry",
+    DefinedFoldBit: "the last bit of an entry of a fold whose gains no law gives",
+    BalanceBit: "the last bit of a balance's gain",
+    BalanceOfBit: "the last bit of a channel's balance",
+    StereoSign: "the sign of a stereo entry",
+    RoundBit: "the last bit of a rounded number",
+    RoundNan: "a number where a rounding gives NaN",
+    Label: "a channel's label",
+    FoldNumber: "the number of a refused fold",
+    DamagedNumber: "the number of a damaged plan's refusal",
+    DamagedPlace: "the place of a damaged plan's refusal",
+    DamagedTaken: "a damaged plan that is taken",
+}
+
+/// What a run has compared.
+#[derive(Default)]
+pub struct Counts {
+    pub plans: u64,
+    pub calls: u64,
+    pub blocks: u64,
+    pub samples: u64,
+    pub lists: u64,
+    pub folds: u64,
+    pub damaged: u64,
+    pub accepted: u64,
+    pub refused: [u64; 18],
+}
+
+#[derive(Default)]
+pub struct Judge {
+    pub fault: Option<Fault>,
+    pub planted: bool,
+    pub counts: Counts,
+}
+
+impl Judge {
+    /// Whether this fault is to be planted here; once.
+    pub fn plants(&mut self, fault: Fault) -> bool {
+        let here = self.fault == Some(fault) && !self.planted;
+        self.planted |= here;
+        here
+    }
+
+    /// The same, where there is anything to plant it in.
+    pub fn plants_if(&mut self, there: bool, fault: Fault) -> bool {
+        there && self.plants(fault)
+    }
+
+    /// A refusal by document 01 and the port's answer.
+    pub fn refusal(&mut self, call: &str, reference: Status, port: Status) -> Found {
+        let mut reference = reference;
+        self.counts.calls += 1;
+        self.counts.refused[reference.number as usize] += 1;
+        if self.plants(Fault::Number) {
+            reference.number += 1;
+        }
+        if self.plants_if(reference.place > 0, Fault::Place) {
+            reference.place += 1;
+        }
+        if self.plants(Fault::Accepted) {
+            reference = Status::default();
+        }
+        same(&format!("refusal of {call}"), &reference, &port)
+    }
+}

@@ -1,0 +1,93 @@
+//! What is done with a plan, at random: settings, blocks, adoptions, and areas that somebody else wrote.
+use crate::layouts::Gen;
+use crate::paper::MAX_ENTRIES;
+use crate::plan::{Layout, Step, FLOATS};
+
+#[derive(Clone, Debug)]
+pub struct Setting {
+    pub id: u32,
+    pub values: Vec<f32>,
+    pub ramp: u32,
+}
+
+/// An input block: its directory, four words an entry, over its samples.
+#[derive(Clone, Debug)]
+pub struct Input {
+    pub directory: Vec<u32>,
+    pub samples: Vec<f32>,
+}
+
+/// A node's new len, left and rows.
+#[derive(Clone, Debug)]
+pub struct NodePoke {
+    pub node: usize,
+    pub len: u32,
+    pub left: u32,
+    pub floats: Vec<f32>,
+}
+
+impl Gen {
+    /// A setting, one in ten for an id that no node has.
+    pub fn setting(&mut self, l: &Layout) -> Setting {
+        let ids: Vec<u32> = l.nodes.iter().map(|n| n.id).collect();
+        let known = !ids.is_empty() && self.r.percent(90);
+        let id = if known { self.r.pick(&ids) } else { self.id(&ids) };
+        let n = self.r.pick(&[0, 1, 1, 2, 3, 4, 6, 12, 23, 24, 25, 30]);
+        Setting { id, values: self.wild.gains(&mut self.r, n), ramp: self.ramp() }
+    }
+
+    /// An input block for the Patches of a layout: parts that overlap, are short, long or missing, and entries for one channel twice.
+    pub fn input_block(&mut self, l: &Layout) -> Input {
+        let total = self.block * self.r.pick(&[1, 1, 2, 3]) + self.r.pick(&[0, 0, 1, 7]);
+        let samples = (0..total).map(|_| self.wild.sample(&mut self.r)).collect();
+        let mut entries: Vec<[u32; 4]> = Vec::new();
+        for s in &l.steps {
+            if let Step::Patch { input, channel, .. } = *s {
+                for _ in 0..self.r.pick(&[0, 1, 1, 1, 1, 1, 2]) {
+                    let (start, len) = self.part(total);
+                    entries.push([input, channel, start as u32, len as u32]);
+                }
+            }
+        }
+        if self.r.percent(30) {
+            entries.push([self.r.below(256) as u32, 77, self.r.below(total + 1) as u32, 0]);
+            for i in (1..entries.len()).rev() {
+                entries.swap(i, self.r.below(i + 1));
+            }
+        }
+        entries.truncate(MAX_ENTRIES);
+        Input { directory: entries.concat(), samples }
+    }
+
+    fn part(&mut self, total: usize) -> (usize, usize) {
+        let b = self.block;
+        let len = match self.r.below(20) {
+            0 => b - 1,
+            1 => 0,
+            2 => self.r.below(total + 1),
+            3 | 4 => total,
+            5 => b + 1,
+            _ => b,
+        };
+        let len = len.min(total);
+        (self.r.below(total - len + 1), len)
+    }
+
+    /// Pairs (new, old), some of them out of range.
+    pub fn pairs(&mut self, new: usize, old: usize) -> Vec<u32> {
+        let mut pairs = Vec::new();
+        if self.r.percent(60) {
+            pairs.extend((0..new.min(old) as u32).flat_map(|i| [i, i]));
+        }
+        for _ in 0..self.r.below(5) {
+            let (x, y) = (self.r.below(new + 2) as u32, self.r.below(old + 2) as u32);
+            pairs.extend(self.r.pick(&[[x, y], [x, y], [x, y], [u32::MAX, y], [x, u32::MAX]]));
+        }
+        pairs
+    }
+
+    pub fn node_poke(&mut self, nodes: usize) -> NodePoke {
+        let floats = (0..FLOATS).map(|_| self.wild.gain(&mut self.r)).collect();
+        NodePoke { node: self.r.below(nodes), len: self.node_len() as u32, left: self.ramp(), floats }
+    }
+}

@@ -1,0 +1,101 @@
+//! A plan: its steps, the builder calls that make it, and the areas that a caller lends with it.
+use crate::mixer::{Plan, Span};
+
+/// Values of a node; its floats and words in the areas.
+pub const VALUES: usize = 24;
+pub const FLOATS: usize = 3 * VALUES;
+pub const WORDS: usize = 3;
+
+pub fn span(start: usize, len: usize) -> Span {
+    Span { start: start as u32, len: len as u32 }
+}
+
+#[derive(Clone, Copy, Debug, PartialEq, Eq)]
+pub enum Step {
+    Patch { input: u32, channel: u32, dst: u32 },
+    Gain { node: u32, src: Span, dst: Span },
+    Matrix { node: u32, src: Span, dst: Span },
+    Clear { dst: Span },
+    Send { node: u32, src: Span, dst: Span, weights: Span },
+    Output { src: Span, slot: u32 },
+}
+
+impl Step {
+    /// The step's record: its map, then a word for each bit that stands.
+    pub fn record(&self) -> Vec<u32> {
+        match *self {
+            Step::Patch { input, channel, dst } => vec![7, input, channel, dst],
+            Step::Gain { node, src, dst } => vec![248, node, src.start, src.len, dst.start, dst.len],
+            Step::Matrix { node, src, dst } => vec![2296, node, src.start, src.len, dst.start, dst.len],
+            Step::Clear { dst } => vec![192, dst.start, dst.len],
+            Step::Send { node, src, dst, weights: w } => vec![1016, node, src.start, src.len, dst.start, dst.len, w.start, w.len],
+            Step::Output { src, slot } => vec![1072, src.start, src.len, slot],
+        }
+    }
+}
+
+#[derive(Clone, Debug)]
+pub struct NodeCall {
+    pub id: u32,
+    pub values: Vec<f32>,
+    pub ramp: u32,
+}
+
+#[derive(Clone, Debug)]
+pub enum Call {
+    Buffers(usize),
+    Coefficients(Vec<f32>),
+    Node(NodeCall),
+    Step(Step),
+}
+
+/// What a plan is made of, and the builder calls, in order, that make it.
+#[derive(Clone, Debug, Default)]
+pub struct Layout {
+    pub block: usize,
+    pub buffers: usize,
+    pub index: Vec<u32>,
+    /// The index list is the layout writer's own; else it is the builder's, which is 0, 1, 2, …
+    pub own_index: bool,
+    pub coefficients: Vec<f32>,
+    pub nodes: Vec<NodeCall>,
+    pub steps: Vec<Step>,
+    pub calls: Vec<Call>,
+}
+
+impl Layout {
+    pub fn output_channels(&self) -> usize {
+        let channels = |s: &Step| if let Step::Output { src, .. } = s { src.len as usize } else { 0 };
+        self.steps.iter().map(channels).sum()
+    }
+}
+
+/// A plan's record and its areas, as they are lent to a call.
+#[derive(Clone, Debug, Default)]
+pub struct Areas {
+    pub plan: Plan,
+    pub indices: Vec<u32>,
+    pub coefficients: Vec<f32>,
+    pub floats: Vec<f32>,
+    pub words: Vec<u32>,
+    pub steps: Vec<u32>,
+    pub buffers: Vec<f32>,
+}
+
+impl Areas {
+    /// Areas for a layout, each with `more` entries than it needs, that hold anything.
+    pub fn for_layout(l: &Layout, more: usize) -> Self {
+        let words: usize = l.steps.iter().map(|s| s.record().len()).sum();
+        let fresh = if l.own_index { l.buffers } else { 0 };
+        let junk = f32::from_bits(0xdead_beef);
+        Areas {
+            plan: Plan::default(),
+            indices: vec![0xdead_beef; l.index.len().max(fresh) + more],
+            coefficients: vec![junk; l.coefficients.len() + more],
+            floats: vec![junk; FLOATS * l.nodes.len() + more],
+            words: vec![0xdead_beef; WORDS * l.nodes.len() + more],
+            steps: vec![0xdead_beef; words + more],
+            buffers: vec![junk; l.buffers * l.block + more],
+        }
+    }
+}

@@ -1,0 +1,93 @@
+//! The reference's side: its own builder, plan and calls.
+use crate::mixer;
+use crate::plan::{Areas, Step, FLOATS, VALUES, WORDS};
+use reference::engine::plan::peek;
+use reference::engine::plan::{InputSource, OutputSink, Span};
+pub use reference::engine::plan::{Plan, PlanBuilder};
+
+pub fn span(s: mixer::Span) -> Span {
+    Span { start: s.start, len: s.len }
+}
+
+pub fn span_back(s: Span) -> mixer::Span {
+    mixer::Span { start: s.start, len: s.len }
+}
+
+pub fn step(s: &Step) -> reference::engine::plan::Step {
+    use reference::engine::plan::Step as To;
+    match *s {
+        Step::Patch { input, channel, dst } => To::Patch { input, channel, dst },
+        Step::Gain { node, src, dst } => To::Gain { node, src: span(src), dst: span(dst) },
+        Step::Matrix { node, src, dst } => To::Matrix { node, src: span(src), dst: span(dst) },
+        Step::Clear { dst } => To::Clear { dst: span(dst) },
+        Step::Send { node, src, dst, weights } => To::Send { node, src: span(src), dst: span(dst), coefficients: span(weights) },
+        Step::Output { src, slot } => To::Output { src: span(src), slot },
+    }
+}
+
+/// The lent input block.
+struct Directory<'a>(&'a [u32], &'a [f32]);
+
+impl InputSource for Directory<'_> {
+    fn channel(&self, input: usize, channel: usize) -> Option<&[f32]> {
+        Some(crate::paper::lookup(self.0, self.1, input as u32, channel as u32))
+    }
+}
+
+/// The output area.
+#[derive(Default)]
+struct Appended(Vec<f32>);
+
+impl OutputSink for Appended {
+    fn write(&mut self, _slot: usize, _channel: usize, _channels: usize, samples: &[f32]) {
+        self.0.extend_from_slice(samples);
+    }
+}
+
+/// One block; the samples that the Outputs append.
+pub fn process(p: &mut Plan, directory: &[u32], samples: &[f32]) -> Vec<f32> {
+    let mut out = Appended::default();
+    p.process(0, &Directory(directory, samples), &mut out);
+    out.0
+}
+
+pub fn adopt(new: &mut Plan, old: &mut Plan, pairs: &[u32], ramp: u32) {
+    new.carry = pairs.chunks_exact(2).map(|p| (p[0], p[1])).collect();
+    new.adopt(old, ramp);
+}
+
+/// Writes the nodes to the front of node areas, as document 01 lays them out.
+pub fn nodes_to(nodes: &[reference::engine::plan::Node], floats: &mut [f32], words: &mut [u32]) {
+    for ((n, f), w) in nodes.iter().zip(floats.chunks_exact_mut(FLOATS)).zip(words.chunks_exact_mut(WORDS)) {
+        let r = peek::node(n);
+        f[..VALUES].copy_from_slice(&r.cur);
+        f[VALUES..2 * VALUES].copy_from_slice(&r.target);
+        f[2 * VALUES..].copy_from_slice(&r.step);
+        w.copy_from_slice(&[r.id, r.len, r.left]);
+    }
+}
+
+/// Takes the nodes from node areas.
+pub fn nodes_from(p: &mut Plan, floats: &[f32], words: &[u32]) {
+    for ((n, f), w) in p.nodes.iter_mut().zip(floats.chunks_exact(FLOATS)).zip(words.chunks_exact(WORDS)) {
+        let row = |i: usize| -> [f32; VALUES] { f[i * VALUES..][..VALUES].try_into().unwrap() };
+        peek::put_node(n, &peek::Raw { id: w[0], len: w[1], left: w[2], cur: row(0), target: row(1), step: row(2) });
+    }
+}
+
+/// The plan that areas hold, which the plan check has accepted with these steps.
+pub fn from_areas(a: &Areas, steps: &[Step]) -> Plan {
+    let mut b = PlanBuilder::new(a.plan.block);
+    b.buffers(a.plan.buffers);
+    peek::set_indices(&mut b, &a.indices[..a.plan.indices]);
+    b.coefficients(&a.coefficients[..a.plan.coefficients]);
+    for w in a.words.chunks_exact(WORDS).take(a.plan.nodes) {
+        b.node(w[0], &[], 0);
+    }
+    steps.iter().for_each(|s| b.step(step(s)));
+    let mut p = b.finish();
+    nodes_from(&mut p, &a.floats, &a.words);
+    let used = a.plan.buffers * a.plan.block;
+    peek::buffers_mut(&mut p).copy_from_slice(&a.buffers[..used]);
+    p
+}

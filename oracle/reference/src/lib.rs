@@ -1,0 +1,7 @@
+//! The reference: plan.rs and format.rs of the Rust mixer, unchanged, with stand-ins for what they import (../README.md) and a child module
+//! each that reads what is private.
+#![allow(clippy::all)]
+
+pub mod dsp;
+pub mod engine;
+pub mod mix;
