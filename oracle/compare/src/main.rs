@@ -4,11 +4,13 @@
 mod building;
 mod judge;
 mod layouts;
+mod misbuilt;
 mod mixer;
 mod ops;
 mod paper;
 mod plan;
 mod plans;
+mod refused;
 mod rng;
 mod rust;
 mod twin;
@@ -35,6 +37,8 @@ fn main() {
     };
     let c = &j.counts;
     println!("{} plans, {} calls, {} blocks, {} samples, {} lists", c.plans, c.calls, c.blocks, c.samples, c.lists);
+    let refused: Vec<String> = (1..18).map(|n| format!("{n}: {}", c.refused[n])).collect();
+    println!("refused by number: {}", refused.join(", "));
     if let Err(difference) = found {
         println!("DIFFERENCE {difference}");
         std::process::exit(1);

@@ -2,6 +2,7 @@
 use crate::building::build;
 use crate::judge::{Found, Judge};
 use crate::layouts::Gen;
+use crate::refused;
 use crate::twin::Twin;
 
 /// The case of a seed.
@@ -20,7 +21,7 @@ pub fn case(j: &mut Judge, seed: u64) -> Found {
     Ok(())
 }
 
-/// Settings, areas that somebody else wrote, and a block.
+/// Settings, areas that somebody else wrote, a block, and calls that are refused.
 fn one_round(j: &mut Judge, g: &mut Gen, twin: &mut Twin) -> Found {
     for _ in 0..g.r.pick(&[0, 0, 1, 1, 2, 3, 6]) {
         let s = g.setting(&twin.layout);
@@ -32,7 +33,8 @@ fn one_round(j: &mut Judge, g: &mut Gen, twin: &mut Twin) -> Found {
     let input = g.input_block(&twin.layout);
     let more = g.r.pick(&[0, 0, 1, 3]);
     twin.run(j, &input, more)?;
-    twin.lookup(j, g, &input)
+    twin.lookup(j, g, &input)?;
+    (0..g.r.below(5)).try_for_each(|_| refused::one(j, g, twin))
 }
 
 fn poke(g: &mut Gen, twin: &mut Twin) {
