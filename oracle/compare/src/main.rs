@@ -2,10 +2,13 @@
 #![allow(dead_code)]
 
 mod building;
+mod folds;
 mod judge;
 mod layouts;
+mod mapping;
 mod misbuilt;
 mod mixer;
+mod numbers;
 mod ops;
 mod paper;
 mod plan;
@@ -30,13 +33,14 @@ fn main() {
     let mut j = Judge::default();
     let found = match (args.first().map(String::as_str), number(1), number(2)) {
         (Some("plans"), Some(seed), Some(count)) => cases(&mut j, seed, count, plans::case),
+        (Some("folds"), Some(seed), Some(count)) => cases(&mut j, seed, count, folds::case),
         _ => {
             eprintln!("{USAGE}");
             std::process::exit(2);
         }
     };
     let c = &j.counts;
-    println!("{} plans, {} calls, {} blocks, {} samples, {} lists", c.plans, c.calls, c.blocks, c.samples, c.lists);
+    println!("{} plans, {} calls, {} blocks, {} samples, {} lists, {} folds", c.plans, c.calls, c.blocks, c.samples, c.lists, c.folds);
     let refused: Vec<String> = (1..18).map(|n| format!("{n}: {}", c.refused[n])).collect();
     println!("refused by number: {}", refused.join(", "));
     if let Err(difference) = found {

@@ -1,0 +1,51 @@
+//! Document 01's fold by linear gains, for gains that no law of the reference gives: what a label turns into where the destination lacks it.
+use crate::mixer::FoldGains;
+use std::f64::consts::FRAC_1_SQRT_2;
+
+/// A row for each label of the destination, a column for each of the source, rounded.
+pub fn matrix(src: &[&str], dst: &[&str], g: &FoldGains, normalise: bool) -> Vec<f32> {
+    let columns = src.len();
+    let mut m = vec![0f64; dst.len() * columns];
+    for (s, label) in src.iter().enumerate() {
+        for (d, gain) in ends(label, dst, 1.0, g) {
+            m[d * columns + s] += gain;
+        }
+    }
+    if normalise && columns > 2 && dst.len() < columns {
+        let sum = |row: &[f64]| row.iter().fold(0.0, |sum, x| sum + x.abs());
+        let most = m.chunks(columns).map(sum).fold(0.0, f64::max);
+        if most > 1.0 {
+            m.iter_mut().for_each(|x| *x /= most);
+        }
+    }
+    m.iter().map(|x| *x as f32).collect()
+}
+
+/// Where a label ends in the destination, and with which gain, from the source outward.
+fn ends(label: &str, dst: &[&str], gain: f64, g: &FoldGains) -> Vec<(usize, f64)> {
+    match dst.iter().position(|l| *l == label) {
+        Some(d) => vec![(d, gain)],
+        None => turns(label, dst, g).into_iter().flat_map(|(l, x)| ends(l, dst, gain * x, g)).collect(),
+    }
+}
+
+/// The labels that a missing one turns into.
+fn turns(label: &str, dst: &[&str], g: &FoldGains) -> Vec<(&'static str, f64)> {
+    let half = FRAC_1_SQRT_2;
+    let or = |wish: &'static str, x: f64, else_: &'static str, y: f64| vec![if dst.contains(&wish) { (wish, x) } else { (else_, y) }];
+    match label {
+        "M" if dst.contains(&"C") => vec![("C", 1.0)],
+        "M" => vec![("L", g.pan_left), ("R", g.pan_right)],
+        "L" | "R" => vec![("M", g.mono_sum)],
+        "C" => vec![("L", g.centre), ("R", g.centre)],
+        "LFE" => vec![("L", g.lfe), ("R", g.lfe)],
+        "Ls" => or("Lss", 1.0, "L", g.surround),
+        "Rs" => or("Rss", 1.0, "R", g.surround),
+        "Lss" | "Lrs" => vec![("Ls", half)],
+        "Rss" | "Rrs" => vec![("Rs", half)],
+        "Ltf" => vec![("L", half)],
+        "Rtf" => vec![("R", half)],
+        "Ltr" => or("Lrs", half, "Ls", half),
+        _ => or("Rrs", half, "Rs", half),
+    }
+}
