@@ -163,7 +163,8 @@ impl Gen {
         Step::Clear { dst: span(self.r.below(l.index.len() + 1), 0) }
     }
 
-    fn any_step(&mut self, t: &Tables) -> Step {
+    /// A step whose spans are in their tables; it may still be refused.
+    pub fn any_step(&mut self, t: &Tables) -> Step {
         let entries = t.index.len();
         let node = self.r.below(t.nodes) as u32;
         let (src, mut dst) = (self.span(entries), self.span(entries));

@@ -2,6 +2,7 @@
 #![allow(dead_code)]
 
 mod building;
+mod damaged;
 mod folds;
 mod judge;
 mod layouts;
@@ -34,6 +35,7 @@ fn main() {
     let found = match (args.first().map(String::as_str), number(1), number(2)) {
         (Some("plans"), Some(seed), Some(count)) => cases(&mut j, seed, count, plans::case),
         (Some("folds"), Some(seed), Some(count)) => cases(&mut j, seed, count, folds::case),
+        (Some("damaged"), Some(seed), Some(count)) => cases(&mut j, seed, count, damaged::case),
         _ => {
             eprintln!("{USAGE}");
             std::process::exit(2);
@@ -41,6 +43,7 @@ fn main() {
     };
     let c = &j.counts;
     println!("{} plans, {} calls, {} blocks, {} samples, {} lists, {} folds", c.plans, c.calls, c.blocks, c.samples, c.lists, c.folds);
+    println!("{} damaged plans, {} calls on them accepted", c.damaged, c.accepted);
     let refused: Vec<String> = (1..18).map(|n| format!("{n}: {}", c.refused[n])).collect();
     println!("refused by number: {}", refused.join(", "));
     if let Err(difference) = found {

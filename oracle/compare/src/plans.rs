@@ -22,7 +22,7 @@ pub fn case(j: &mut Judge, seed: u64) -> Found {
 }
 
 /// Settings, areas that somebody else wrote, a block, and calls that are refused.
-fn one_round(j: &mut Judge, g: &mut Gen, twin: &mut Twin) -> Found {
+pub fn one_round(j: &mut Judge, g: &mut Gen, twin: &mut Twin) -> Found {
     for _ in 0..g.r.pick(&[0, 0, 1, 1, 2, 3, 6]) {
         let s = g.setting(&twin.layout);
         twin.set(j, &s).map_err(|e| format!("{s:?}: {e}"))?;

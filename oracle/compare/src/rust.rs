@@ -77,17 +77,26 @@ pub fn nodes_from(p: &mut Plan, floats: &[f32], words: &[u32]) {
 
 /// The plan that areas hold, which the plan check has accepted with these steps.
 pub fn from_areas(a: &Areas, steps: &[Step]) -> Plan {
-    let mut b = PlanBuilder::new(a.plan.block);
-    b.buffers(a.plan.buffers);
-    peek::set_indices(&mut b, &a.indices[..a.plan.indices]);
-    b.coefficients(&a.coefficients[..a.plan.coefficients]);
-    for w in a.words.chunks_exact(WORDS).take(a.plan.nodes) {
-        b.node(w[0], &[], 0);
-    }
-    steps.iter().for_each(|s| b.step(step(s)));
-    let mut p = b.finish();
+    let mut p = wired(a, steps, a.plan.block).finish();
     nodes_from(&mut p, &a.floats, &a.words);
     let used = a.plan.buffers * a.plan.block;
     peek::buffers_mut(&mut p).copy_from_slice(&a.buffers[..used]);
     p
+}
+
+/// The source lists of a plan, of whose areas only those that a trace is lent are read.
+pub fn sources(a: &Areas, steps: &[Step]) -> Vec<Vec<u16>> {
+    wired(a, steps, 1).finish().output_sources
+}
+
+fn wired(a: &Areas, steps: &[Step], block: usize) -> PlanBuilder {
+    let mut b = PlanBuilder::new(block);
+    b.buffers(a.plan.buffers);
+    peek::set_indices(&mut b, &a.indices[..a.plan.indices]);
+    b.coefficients(&a.coefficients[..a.plan.coefficients.min(a.coefficients.len())]);
+    for w in a.words.chunks_exact(WORDS).take(a.plan.nodes) {
+        b.node(w[0], &[], 0);
+    }
+    steps.iter().for_each(|s| b.step(step(s)));
+    b
 }
