@@ -1,8 +1,7 @@
 //! Compares the port with the reference in one process, call by call. ../README.md says what is compared.
-#![allow(dead_code)]
-
 mod building;
 mod damaged;
+mod faults;
 mod folds;
 mod judge;
 mod layouts;
@@ -19,36 +18,54 @@ mod rng;
 mod rust;
 mod twin;
 
-use judge::{Found, Judge};
+use judge::{Counts, Found, Judge};
 
-const USAGE: &str = "oracle plans SEED COUNT";
+const USAGE: &str = "oracle plans SEED COUNT     COUNT random plans, the first of them of seed SEED, built, set, run, traced and adopted
+oracle damaged SEED COUNT   COUNT good plans, each damaged at every place in turn
+oracle folds SEED COUNT     formats, balances, folds and roundings, COUNT times
+oracle faults               plants each fault and looks whether it is found
+Exit status: 0 no difference, 1 a difference or a fault missed, 2 bad usage.";
 
 /// Runs cases of `count` seeds from the first on, until one differs.
-fn cases(j: &mut Judge, first: u64, count: u64, case: fn(&mut Judge, u64) -> Found) -> Found {
-    (first..first + count).try_for_each(|seed| case(j, seed).map_err(|e| format!("seed {seed}: {e}")))
+fn cases(first: u64, count: u64, case: fn(&mut Judge, u64) -> Found) -> Result<String, String> {
+    let mut j = Judge::default();
+    let found = (first..first.saturating_add(count)).try_for_each(|seed| case(&mut j, seed).map_err(|e| format!("seed {seed}: {e}")));
+    print(&j.counts);
+    found.map(|()| "no difference".to_string()).map_err(|e| format!("DIFFERENCE {e}"))
+}
+
+fn print(c: &Counts) {
+    let counts = [
+        (c.plans, "plans"),
+        (c.damaged, "damaged plans"),
+        (c.calls, "calls"),
+        (c.blocks, "blocks"),
+        (c.samples, "output samples"),
+        (c.lists, "source lists"),
+        (c.folds, "folds"),
+    ];
+    let counts: Vec<String> = counts.iter().filter(|c| c.0 > 0).map(|(n, what)| format!("{n} {what}")).collect();
+    println!("{}", counts.join(", "));
+    if c.damaged > 0 {
+        println!("calls on damaged plans accepted: {}", c.accepted);
+    }
+    let refused: Vec<String> = (1..18).filter(|n| c.refused[*n] > 0).map(|n| format!("{n}: {}", c.refused[n])).collect();
+    println!("refused calls by number: {}", refused.join(", "));
 }
 
 fn main() {
     let args: Vec<String> = std::env::args().skip(1).collect();
     let number = |i: usize| args.get(i).and_then(|a| a.parse::<u64>().ok());
-    let mut j = Judge::default();
     let found = match (args.first().map(String::as_str), number(1), number(2)) {
-        (Some("plans"), Some(seed), Some(count)) => cases(&mut j, seed, count, plans::case),
-        (Some("folds"), Some(seed), Some(count)) => cases(&mut j, seed, count, folds::case),
-        (Some("damaged"), Some(seed), Some(count)) => cases(&mut j, seed, count, damaged::case),
+        (Some("plans"), Some(seed), Some(count)) => cases(seed, count, plans::case),
+        (Some("damaged"), Some(seed), Some(count)) => cases(seed, count, damaged::case),
+        (Some("folds"), Some(seed), Some(count)) => cases(seed, count, folds::case),
+        (Some("faults"), None, None) if args.len() == 1 => faults::all(),
         _ => {
             eprintln!("{USAGE}");
             std::process::exit(2);
         }
     };
-    let c = &j.counts;
-    println!("{} plans, {} calls, {} blocks, {} samples, {} lists, {} folds", c.plans, c.calls, c.blocks, c.samples, c.lists, c.folds);
-    println!("{} damaged plans, {} calls on them accepted", c.damaged, c.accepted);
-    let refused: Vec<String> = (1..18).map(|n| format!("{n}: {}", c.refused[n])).collect();
-    println!("refused by number: {}", refused.join(", "));
-    if let Err(difference) = found {
-        println!("DIFFERENCE {difference}");
-        std::process::exit(1);
-    }
-    println!("no difference");
+    println!("{}", found.as_ref().unwrap_or_else(|e| e));
+    std::process::exit(found.is_err() as i32);
 }

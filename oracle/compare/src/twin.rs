@@ -180,10 +180,9 @@ impl Twin {
         self.follow_nodes(j);
         areas(&self.want, &self.port)?;
         rust::nodes_to(&old.rust.nodes, &mut old.want.floats, &mut old.want.words);
-        if let Some(word) = old.want.words.last_mut() {
-            if j.plants(Fault::OldNode) {
-                *word ^= 1;
-            }
+        let used = WORDS * old.layout.nodes.len();
+        if j.plants_if(used > 0, Fault::OldNode) {
+            old.want.words[used - 1] ^= 1;
         }
         areas(&old.want, &old.port).map_err(|e| format!("old plan: {e}"))
     }
