@@ -139,12 +139,15 @@ fn judge(j: &mut Judge, g: &mut Gen, a: &Areas, input: &Input) -> Found {
     run(j, g, a, whole.as_deref().unwrap_or(&[]), input)?;
     let slot = g.slot() + g.r.pick(&[0, 0, 1]);
     sources(j, a, slot)?;
-    let clean = mixer::clean_answer(a.plan, &a.indices, &a.words, &a.steps);
+    let reply = mixer::clean_answer(a.plan, &a.indices, &a.words, &a.steps);
     match paper::clean(a) {
-        Ok(clean_) => same("clean answer", &CleanReply { status: Status::default(), clean: clean_ }, &clean),
+        Ok(clean) => {
+            accepted(j, "clean_answer", reply.status)?;
+            same("clean answer", &CleanReply { status: Status::default(), clean }, &reply)
+        }
         Err(s) => {
-            refusal(j, "clean_answer", s, clean.status)?;
-            same("refused clean answer", &false, &clean.clean)
+            refusal(j, "clean_answer", s, reply.status)?;
+            same("refused clean answer", &false, &reply.clean)
         }
     }
 }

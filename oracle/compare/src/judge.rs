@@ -1,5 +1,6 @@
 //! Comparison: the first difference ends a run. A planted fault changes what the reference says, so that a run must find it.
 use crate::mixer::Status;
+use crate::shapes::Shapes;
 use std::fmt::Debug;
 
 /// The first difference, in words.
@@ -123,6 +124,7 @@ pub struct Counts {
     pub damaged: u64,
     pub accepted: u64,
     pub refused: [u64; 18],
+    pub shapes: Shapes,
 }
 
 #[derive(Default)]

@@ -16,6 +16,7 @@ mod plans;
 mod refused;
 mod rng;
 mod rust;
+mod shapes;
 mod twin;
 
 use judge::{Counts, Found, Judge};
@@ -23,6 +24,7 @@ use judge::{Counts, Found, Judge};
 const USAGE: &str = "oracle plans SEED COUNT     COUNT random plans, the first of them of seed SEED, built, set, run, traced and adopted
 oracle damaged SEED COUNT   COUNT good plans, each damaged at every place in turn
 oracle folds SEED COUNT     formats, balances, folds and roundings, COUNT times
+oracle show SEED            the layout of a plan
 oracle faults               plants each fault and looks whether it is found
 Exit status: 0 no difference, 1 a difference or a fault missed, 2 bad usage.";
 
@@ -49,6 +51,10 @@ fn print(c: &Counts) {
     if c.damaged > 0 {
         println!("calls on damaged plans accepted: {}", c.accepted);
     }
+    let shapes: Vec<String> = c.shapes.list().iter().map(|(n, what)| format!("{what} {n}")).collect();
+    if c.plans > 0 && c.damaged == 0 {
+        println!("shapes: {}", shapes.join(", "));
+    }
     let refused: Vec<String> = (1..18).filter(|n| c.refused[*n] > 0).map(|n| format!("{n}: {}", c.refused[n])).collect();
     println!("refused calls by number: {}", refused.join(", "));
 }
@@ -60,6 +66,7 @@ fn main() {
         (Some("plans"), Some(seed), Some(count)) => cases(seed, count, plans::case),
         (Some("damaged"), Some(seed), Some(count)) => cases(seed, count, damaged::case),
         (Some("folds"), Some(seed), Some(count)) => cases(seed, count, folds::case),
+        (Some("show"), Some(seed), None) => Ok(format!("{:#?}", layouts::Gen::new(seed).layout(None))),
         (Some("faults"), None, None) if args.len() == 1 => faults::all(),
         _ => {
             eprintln!("{USAGE}");

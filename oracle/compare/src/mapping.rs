@@ -32,20 +32,20 @@ fn ends(label: &str, dst: &[&str], gain: f64, g: &FoldGains) -> Vec<(usize, f64)
 /// The labels that a missing one turns into.
 fn turns(label: &str, dst: &[&str], g: &FoldGains) -> Vec<(&'static str, f64)> {
     let half = FRAC_1_SQRT_2;
-    let or = |wish: &'static str, x: f64, else_: &'static str, y: f64| vec![if dst.contains(&wish) { (wish, x) } else { (else_, y) }];
+    let first_of = |wish: (&'static str, f64), other: (&'static str, f64)| vec![if dst.contains(&wish.0) { wish } else { other }];
     match label {
         "M" if dst.contains(&"C") => vec![("C", 1.0)],
         "M" => vec![("L", g.pan_left), ("R", g.pan_right)],
         "L" | "R" => vec![("M", g.mono_sum)],
         "C" => vec![("L", g.centre), ("R", g.centre)],
         "LFE" => vec![("L", g.lfe), ("R", g.lfe)],
-        "Ls" => or("Lss", 1.0, "L", g.surround),
-        "Rs" => or("Rss", 1.0, "R", g.surround),
+        "Ls" => first_of(("Lss", 1.0), ("L", g.surround)),
+        "Rs" => first_of(("Rss", 1.0), ("R", g.surround)),
         "Lss" | "Lrs" => vec![("Ls", half)],
         "Rss" | "Rrs" => vec![("Rs", half)],
         "Ltf" => vec![("L", half)],
         "Rtf" => vec![("R", half)],
-        "Ltr" => or("Lrs", half, "Ls", half),
-        _ => or("Rrs", half, "Rs", half),
+        "Ltr" => first_of(("Lrs", half), ("Ls", half)),
+        _ => first_of(("Rrs", half), ("Rs", half)),
     }
 }

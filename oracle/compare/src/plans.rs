@@ -12,6 +12,7 @@ pub fn case(j: &mut Judge, seed: u64) -> Found {
     let mut twin = build(j, &mut g, layout)?;
     twin.trace(j)?;
     j.counts.plans += 1;
+    j.counts.shapes.layout(&twin.layout);
     for round in 0..g.r.range(1, 5) {
         if g.r.percent(12) {
             twin = adoption(j, &mut g, twin).map_err(|e| format!("round {round}, adoption: {e}"))?;
@@ -25,6 +26,7 @@ pub fn case(j: &mut Judge, seed: u64) -> Found {
 pub fn one_round(j: &mut Judge, g: &mut Gen, twin: &mut Twin) -> Found {
     for _ in 0..g.r.pick(&[0, 0, 1, 1, 2, 3, 6]) {
         let s = g.setting(&twin.layout);
+        j.counts.shapes.setting(s.ramp, g.block);
         twin.set(j, &s).map_err(|e| format!("{s:?}: {e}"))?;
     }
     if g.r.percent(15) {

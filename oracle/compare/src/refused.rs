@@ -208,7 +208,7 @@ fn trace(j: &mut Judge, g: &mut Gen, twin: &Twin) -> Found {
 }
 
 /// The answers of the three readers, refused ones only, for areas and a slot of any kind.
-pub fn readers(j: &mut Judge, a: &Areas, slot: u32) -> Found {
+fn readers(j: &mut Judge, a: &Areas, slot: u32) -> Found {
     let after = a.clone();
     let mut list = vec![0xabcd; 256];
     if let Err(refusal) = paper::trace(a, slot) {

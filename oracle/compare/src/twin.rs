@@ -88,6 +88,7 @@ impl Twin {
         j.counts.calls += 1;
         j.counts.blocks += 1;
         j.counts.samples += count as u64;
+        j.counts.shapes.samples(&expected);
         expected.resize(count + more, 7.5);
         let mut output = vec![7.5; expected.len()];
         let p = &mut self.port;
