@@ -146,15 +146,17 @@ fn misstep(j: &mut Judge, g: &mut Gen, a: &mut Areas) -> Found {
     same("refused step", &PlanReply { status, plan: a.plan }, &reply)
 }
 
+/// An entry past the index list; one that is there is handed back, also past the span.
 fn misbuffer(j: &mut Judge, g: &mut Gen, a: &Areas) -> Found {
     let span = Span { start: off32(&mut g.r, 1), len: off32(&mut g.r, 1) };
     let i = off(&mut g.r, 1);
-    let at = span.start as u128 + i as u128;
-    let status = Status { number: 2, place: 0 };
-    if at < a.plan.indices as u128 && at < a.indices.len() as u128 {
-        return Ok(());
-    }
     let reply = mixer::buffer(a.plan, span, i, &a.indices);
+    let listed = &a.indices[..a.plan.indices.min(a.indices.len())];
+    let at = (span.start as usize).checked_add(i);
+    if let Some(buffer) = at.and_then(|at| listed.get(at)) {
+        return same("buffer", &BufferReply { status: Status::default(), buffer: *buffer }, &reply);
+    }
+    let status = Status { number: 2, place: 0 };
     j.refusal("buffer", status, reply.status)?;
     same("refused buffer", &BufferReply { status, buffer: 0 }, &reply)
 }
