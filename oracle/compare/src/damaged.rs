@@ -29,19 +29,29 @@ enum Place {
     Many,
 }
 
+/// Memory for the copies of one plan, used again for each.
+#[derive(Default)]
+struct Copies {
+    port: Areas,
+    want: Areas,
+    output: Vec<f32>,
+}
+
 /// The case of a seed: a good plan in use, changed at every place in turn.
 pub fn case(j: &mut Judge, seed: u64) -> Found {
     let mut g = Gen::new(seed);
+    g.block = g.block.min(8); // longer ones only take time here
     let layout = g.layout(None);
     let mut twin = build(j, &mut g, layout)?;
     plans::one_round(j, &mut g, &mut twin)?;
     j.counts.plans += 1;
     let input = g.input_block(&twin.layout);
+    let (mut a, mut copies) = (Areas::default(), Copies::default());
     for place in places(&twin.port, twin.layout.steps.len()) {
         for turn in 0..3 {
-            let mut a = twin.port.clone();
+            a.copy(&twin.port);
             damage(&mut g, &twin.layout, &mut a, place);
-            judge(j, &mut g, &a, &input).map_err(|e| format!("{place:?}, turn {turn}: {e}"))?;
+            judge(j, &mut g, &a, &input, &mut copies).map_err(|e| format!("{place:?}, turn {turn}: {e}"))?;
         }
     }
     Ok(())
@@ -128,7 +138,7 @@ fn many(g: &mut Gen, a: &mut Areas) {
 }
 
 /// All calls that check a plan, on one.
-fn judge(j: &mut Judge, g: &mut Gen, a: &Areas, input: &Input) -> Found {
+fn judge(j: &mut Judge, g: &mut Gen, a: &Areas, input: &Input, copies: &mut Copies) -> Found {
     j.counts.damaged += 1;
     let whole = paper::check(a, Lent::All);
     let got = mixer::check_plan(a.plan, &a.indices, &a.coefficients, &a.floats, &a.words, &a.steps, &a.buffers);
@@ -136,7 +146,7 @@ fn judge(j: &mut Judge, g: &mut Gen, a: &Areas, input: &Input) -> Found {
         Ok(_) => accepted(j, "check_plan", got)?,
         Err(s) => refusal(j, "check_plan", *s, got)?,
     }
-    run(j, g, a, whole.as_deref().unwrap_or(&[]), input)?;
+    run(j, g, a, whole, input, copies)?;
     let slot = g.slot() + g.r.pick(&[0, 0, 1]);
     sources(j, a, slot)?;
     let reply = mixer::clean_answer(a.plan, &a.indices, &a.words, &a.steps);
@@ -169,32 +179,41 @@ fn refusal(j: &mut Judge, call: &str, mut reference: Status, port: Status) -> Fo
     j.refusal(call, reference, port)
 }
 
-fn run(j: &mut Judge, g: &mut Gen, a: &Areas, steps: &[Step], input: &Input) -> Found {
+fn run(j: &mut Judge, g: &mut Gen, a: &Areas, whole: paper::Answer<Vec<Step>>, input: &Input, copies: &mut Copies) -> Found {
+    copies.port.copy(a);
+    copies.output.clear();
     let need = paper::run(a, &input.directory, input.samples.len(), usize::MAX);
-    let mut output = vec![7.5; need.unwrap_or(3) + g.r.pick(&[0, 1])];
-    let mut port = a.clone();
-    let reply = process(&mut port, input, &mut output);
-    match need {
-        Err(s) => {
-            refusal(j, "process", s, reply.status)?;
-            same("count of a refused process", &0, &reply.count)?;
-            kept(j, a, &port)?;
-            kept_answer(j, &output)
-        }
-        Ok(count) => {
+    copies.output.resize(need.unwrap_or(3) + g.r.pick(&[0, 1]), 7.5);
+    let reply = process(&mut copies.port, input, &mut copies.output);
+    match (need, whole) {
+        (Ok(count), Ok(steps)) => {
+            same("count of samples", &count, &reply.count)?;
             accepted(j, "process", reply.status)?;
-            let (mut rust, mut want) = (rust::from_areas(a, steps), a.clone());
-            let mut expected = rust::process(&mut rust, &input.directory, &input.samples);
-            j.counts.blocks += 1;
-            j.counts.samples += count as u64;
-            same("count of samples", &expected.len(), &reply.count)?;
-            expected.resize(output.len(), 7.5);
-            floats("output", &expected, &output)?;
-            rust::nodes_to(&rust.nodes, &mut want.floats, &mut want.words);
-            want.buffers[..a.plan.buffers * a.plan.block].copy_from_slice(peek::buffers(&rust));
-            areas(&want, &port)
+            ran(j, a, &steps, input, copies)?;
+        }
+        (need, _) => {
+            refusal(j, "process", need.err().unwrap_or_default(), reply.status)?;
+            same("count of a refused process", &0, &reply.count)?;
+            kept(j, a, &copies.port)?;
+            kept_answer(j, &copies.output)?;
         }
     }
+    Ok(())
+}
+
+/// What a run of an accepted plan has left in the port's copies, and the reference's own run of it.
+fn ran(j: &mut Judge, a: &Areas, steps: &[Step], input: &Input, copies: &mut Copies) -> Found {
+    let mut rust = rust::from_areas(a, steps);
+    let mut expected = rust::process(&mut rust, &input.directory, &input.samples);
+    j.counts.blocks += 1;
+    j.counts.samples += expected.len() as u64;
+    expected.resize(copies.output.len(), 7.5);
+    floats("output", &expected, &copies.output)?;
+    let want = &mut copies.want;
+    want.copy(a);
+    rust::nodes_to(&rust.nodes, &mut want.floats, &mut want.words);
+    want.buffers[..a.plan.buffers * a.plan.block].copy_from_slice(peek::buffers(&rust));
+    areas(want, &copies.port)
 }
 
 /// The list of a slot. The trace is lent fewer areas than the run, so it may accept a plan that the run refuses.

@@ -83,6 +83,17 @@ pub struct Areas {
 }
 
 impl Areas {
+    /// Becomes a copy of other areas, in the memory that it has.
+    pub fn copy(&mut self, other: &Areas) {
+        self.plan = other.plan;
+        self.indices.clone_from(&other.indices);
+        self.coefficients.clone_from(&other.coefficients);
+        self.floats.clone_from(&other.floats);
+        self.words.clone_from(&other.words);
+        self.steps.clone_from(&other.steps);
+        self.buffers.clone_from(&other.buffers);
+    }
+
     /// Areas for a layout, each with `more` entries than it needs, that hold anything.
     pub fn for_layout(l: &Layout, more: usize) -> Self {
         let words: usize = l.steps.iter().map(|s| s.record().len()).sum();

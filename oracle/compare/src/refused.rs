@@ -93,8 +93,12 @@ fn plant_in_areas(j: &mut Judge, a: &mut Areas) {
 
 /// Areas after a refused call: bit for bit what they were, those of NaNs too.
 pub fn kept(j: &mut Judge, before: &Areas, after: &Areas) -> Found {
-    let mut before = before.clone();
-    plant_in_areas(j, &mut before);
+    let planted = j.fault.is_some().then(|| {
+        let mut a = before.clone();
+        plant_in_areas(j, &mut a);
+        a
+    });
+    let before = planted.as_ref().unwrap_or(before);
     words("indices after a refusal", &before.indices, &after.indices)?;
     untouched("coefficients after a refusal", &before.coefficients, &after.coefficients)?;
     untouched("node floats after a refusal", &before.floats, &after.floats)?;
