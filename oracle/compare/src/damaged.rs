@@ -13,6 +13,9 @@ use crate::rust;
 use crate::twin::areas;
 use reference::engine::plan::peek;
 
+/// A source list for each slot.
+type Lists = Vec<Vec<u16>>;
+
 /// What is changed.
 #[derive(Clone, Copy, Debug)]
 enum Place {
@@ -146,9 +149,9 @@ fn judge(j: &mut Judge, g: &mut Gen, a: &Areas, input: &Input, copies: &mut Copi
         Ok(_) => accepted(j, "check_plan", got)?,
         Err(s) => refusal(j, "check_plan", *s, got)?,
     }
-    run(j, g, a, whole, input, copies)?;
+    let lists = run(j, g, a, whole, input, copies)?;
     let slot = g.slot() + g.r.pick(&[0, 0, 1]);
-    sources(j, a, slot)?;
+    sources(j, a, slot, lists)?;
     let reply = mixer::clean_answer(a.plan, &a.indices, &a.words, &a.steps);
     match paper::clean(a) {
         Ok(clean) => {
@@ -179,7 +182,15 @@ fn refusal(j: &mut Judge, call: &str, mut reference: Status, port: Status) -> Fo
     j.refusal(call, reference, port)
 }
 
-fn run(j: &mut Judge, g: &mut Gen, a: &Areas, whole: paper::Answer<Vec<Step>>, input: &Input, copies: &mut Copies) -> Found {
+/// A run; where the plan is accepted, the reference's source lists of it.
+fn run(
+    j: &mut Judge,
+    g: &mut Gen,
+    a: &Areas,
+    whole: paper::Answer<Vec<Step>>,
+    input: &Input,
+    copies: &mut Copies,
+) -> Result<Option<Lists>, String> {
     copies.port.copy(a);
     copies.output.clear();
     let need = paper::run(a, &input.directory, input.samples.len(), usize::MAX);
@@ -189,20 +200,20 @@ fn run(j: &mut Judge, g: &mut Gen, a: &Areas, whole: paper::Answer<Vec<Step>>, i
         (Ok(count), Ok(steps)) => {
             same("count of samples", &count, &reply.count)?;
             accepted(j, "process", reply.status)?;
-            ran(j, a, &steps, input, copies)?;
+            ran(j, a, &steps, input, copies).map(Some)
         }
         (need, _) => {
             refusal(j, "process", need.err().unwrap_or_default(), reply.status)?;
             same("count of a refused process", &0, &reply.count)?;
             kept(j, a, &copies.port)?;
             kept_answer(j, &copies.output)?;
+            Ok(None)
         }
     }
-    Ok(())
 }
 
 /// What a run of an accepted plan has left in the port's copies, and the reference's own run of it.
-fn ran(j: &mut Judge, a: &Areas, steps: &[Step], input: &Input, copies: &mut Copies) -> Found {
+fn ran(j: &mut Judge, a: &Areas, steps: &[Step], input: &Input, copies: &mut Copies) -> Result<Lists, String> {
     let mut rust = rust::from_areas(a, steps);
     let mut expected = rust::process(&mut rust, &input.directory, &input.samples);
     j.counts.blocks += 1;
@@ -213,11 +224,12 @@ fn ran(j: &mut Judge, a: &Areas, steps: &[Step], input: &Input, copies: &mut Cop
     want.copy(a);
     rust::nodes_to(&rust.nodes, &mut want.floats, &mut want.words);
     want.buffers[..a.plan.buffers * a.plan.block].copy_from_slice(peek::buffers(&rust));
-    areas(want, &copies.port)
+    areas(want, &copies.port)?;
+    Ok(rust.output_sources)
 }
 
 /// The list of a slot. The trace is lent fewer areas than the run, so it may accept a plan that the run refuses.
-fn sources(j: &mut Judge, a: &Areas, slot: u32) -> Found {
+fn sources(j: &mut Judge, a: &Areas, slot: u32, lists: Option<Lists>) -> Found {
     let mut list = vec![0xabcd; 257];
     let reply = mixer::output_sources(a.plan, slot, &a.indices, &a.words, &a.steps, &mut list);
     match paper::trace(a, slot) {
@@ -227,7 +239,8 @@ fn sources(j: &mut Judge, a: &Areas, slot: u32) -> Found {
             words("source list after a refusal", &[0xabcd; 257], &list)
         }
         Ok(steps) => {
-            let mut expected = rust::sources(a, &steps)[slot as usize].clone();
+            let lists = lists.unwrap_or_else(|| rust::sources(a, &steps));
+            let mut expected = lists[slot as usize].clone();
             j.counts.lists += 1;
             accepted(j, "output_sources", reply.status)?;
             same("source list", &CountReply { count: expected.len(), ..CountReply::default() }, &reply)?;
