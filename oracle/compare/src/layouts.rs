@@ -102,7 +102,7 @@ impl Gen {
     fn buffers(&mut self, l: &mut Layout, large: bool) {
         l.buffers = match self.r.below(50) {
             0 => 0,
-            _ if large && self.block <= 64 => self.r.pick(&[64, 255, 256]),
+            _ if large && (self.block <= 64 || self.r.percent(20)) => self.r.pick(&[64, 255, 256]),
             _ => self.r.range(1, if self.block > 64 { 12 } else { 24 }),
         };
         l.index = (0..l.buffers as u32).collect();

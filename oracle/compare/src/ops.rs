@@ -36,7 +36,8 @@ impl Gen {
         Setting { id, values: self.wild.gains(&mut self.r, n), ramp: self.ramp() }
     }
 
-    /// An input block for the Patches of a layout: parts that overlap, are short, long or missing, and entries for one channel twice.
+    /// An input block for the Patches of a layout: parts that overlap, are short, long or missing, entries for one channel twice, and now and
+    /// then as many entries as there may be.
     pub fn input_block(&mut self, l: &Layout) -> Input {
         let total = self.block * self.r.pick(&[1, 1, 2, 3]) + self.r.pick(&[0, 0, 1, 7]);
         let samples = (0..total).map(|_| self.wild.sample(&mut self.r)).collect();
@@ -54,6 +55,9 @@ impl Gen {
             for i in (1..entries.len()).rev() {
                 entries.swap(i, self.r.below(i + 1));
             }
+        }
+        if self.r.percent(2) {
+            entries.resize(MAX_ENTRIES, [u32::MAX, u32::MAX, total as u32, 0]);
         }
         entries.truncate(MAX_ENTRIES);
         Input { directory: entries.concat(), samples }

@@ -32,7 +32,7 @@ impl Rng {
 
     /// 0 to n − 1; 0 where n is 0.
     pub fn below(&mut self, n: usize) -> usize {
-        ((self.next() >> 32) * n as u64 >> 32) as usize
+        (((self.next() >> 32) as u128 * n as u128) >> 32) as usize
     }
 
     /// lo to hi, both included.
