@@ -135,14 +135,16 @@ fn gains_of(laws: &Laws) -> FoldGains {
 
 fn by_law(j: &mut Judge, src: usize, dst: usize, laws: &Laws) -> Found {
     let mut matrix = format::width_matrix(FORMATS[src], FORMATS[dst], laws);
+    let g = gains_of(laws);
+    let defined = crate::mapping::matrix(FORMATS[src].labels(), FORMATS[dst].labels(), &g, laws.downmix.normalise);
+    floats("the definition's own fold (in the place of the port's)", &matrix, &defined)?;
     if j.plants(Fault::FoldBit) {
         flip(&mut matrix[0]);
     }
-    let g = gains_of(laws);
     width(j, src, dst, g, laws.downmix.normalise, matrix).map_err(|e| format!("{laws:?}: {e}"))
 }
 
-/// Gains that no law need give: document 01's own words.
+/// Gains that no law need give, by the table of the fold's rules.
 fn by_definition(j: &mut Judge, src: usize, dst: usize, g: FoldGains, normalise: bool) -> Found {
     let mut matrix = crate::mapping::matrix(FORMATS[src].labels(), FORMATS[dst].labels(), &g, normalise);
     if j.plants(Fault::DefinedFoldBit) {

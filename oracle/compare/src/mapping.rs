@@ -1,4 +1,5 @@
-//! Document 01's fold by linear gains, for gains that no law of the reference gives: what a label turns into where the destination lacks it.
+//! The fold by linear gains, for gains that no law of the reference gives. Document 01 has the rules 'as in `fold`' of the reference: here they
+//! are a table of what a label turns into where the destination lacks it. `folds.rs` holds it to the reference wherever a law gives the gains.
 use crate::mixer::FoldGains;
 use std::f64::consts::FRAC_1_SQRT_2;
 
