@@ -5,12 +5,12 @@ use mathlib.Core.Bool.{Bool, true, false, _&&_, _||_, or-true, or-false}
 use mathlib.Core.List.{List, [], _∷_}
 use Prim.Native.Nat.{ℕ, zero, suc, _+_, _-_, _*_, _%_, _≤_, _<_}
 use native.Mathlib.Omega.{arith}
-use native.Mathlib.Nat.{not-suc-le-zero, add-zero}
+use native.Mathlib.Nat.{not-suc-le-zero, add-zero, sub-zero}
 use lib.ListN.{length, getD, drop, length-drop}
 use lib.Seq.{take-all, take-nil}
 use lib.Dec.{ltb, eqb}
 use lib.Ieee.{Float}
-use borrow.Author.Tests.{ltb-false, eqb-true, not-false}
+use borrow.Author.Tests.{ltb-true, ltb-false, eqb-true, not-false}
 use Rattle.lists.specs.Parts.{part}
 use Rattle.lists.proofs.Stores.{length-part}
 use Rattle.plan.proofs.Bools.{or-none}
@@ -53,6 +53,23 @@ module _ (directory : List ℕ) (samples : List Float) (input channel : ℕ) whe
   pub looked-none : (i : ℕ) {left : ℕ} → left ≡ 0 → lookupFrom directory samples input channel left i ≡ []
   unfolding lookupFrom
   looked-none i e = ap (λ (k : ℕ). lookupFrom directory samples input channel k i) e
+
+  -- ---- from an entry on, where none before it matches
+  pub skipped : (first : ℕ) → ((j : ℕ) → j < entries directory → j < first → entryFor directory input channel j ≡ false)
+      → lookup directory samples input channel ≡ lookupFrom directory samples input channel (entries directory - first) first
+  unfolding lookup
+  skipped zero none = rw sub-zero refl
+  skipped (suc k) none = skipped k (λ j h l. none j h (omega arith)) ∙ go (ltb k (entries directory)) refl
+    where
+      go : (b : Bool) → ltb k (entries directory) ≡ b
+          → lookupFrom directory samples input channel (entries directory - k) k ≡ lookupFrom directory samples input channel (entries directory - suc k) (suc k)
+      go true e =
+          let h = ltb-true k (entries directory) e in
+          let s : k + 1 ≡ suc k = omega arith in
+          looked-no directory samples input channel k {left = entries directory - k} {more = entries directory - suc k} (omega (arith, h)) (none k h (omega arith)) ∙ ap (lookupFrom directory samples input channel (entries directory - suc k)) s
+      go false e =
+          let h = ltb-false k (entries directory) e in
+          looked-none k {left = entries directory - k} (omega (arith, h)) ∙ sym (looked-none (suc k) {left = entries directory - suc k} (omega (arith, h)))
 
   -- ---- the whole lookup
   moved : (i j : ℕ) → i ≡ j → entryFor directory input channel i ≡ entryFor directory input channel j

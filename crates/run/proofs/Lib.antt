@@ -1,7 +1,8 @@
 -- Laws that belong to no one function, for the crates above too.
 
--- the channel lookup and the directory
+-- the channel lookup and the directory, and the first entry of each input
 pub mod Input
+pub mod Firsts
 -- what a setting's answer says, and what the call leaves
 pub mod Setting
 -- the answers of the admission, and what an accepted run says

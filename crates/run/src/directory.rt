@@ -1,9 +1,13 @@
 // The input block: a directory of entries, four u32 each (input, channel, start, length), over the lent samples.
+use plan::Step;
 ghost use mathlib.Core.Path.{_≡_};
-ghost use Prim.Native.Nat.{_*_, _≤_};
+ghost use mathlib.Core.Bool.{false};
+ghost use Prim.Native.Nat.{ℕ, _*_, _≤_, _<_};
 ghost use lib.ListN.{length};
 ghost use Rattle.lists.specs.Parts.{part};
-ghost use Rattle.run.specs.Input.{entryWords, lookup, somePast, directoryBad};
+ghost use Rattle.plan.specs.Limits.{inputs};
+ghost use Rattle.run.specs.Input.{entryWords, maxEntries, entries, entryFor, lookup, somePast, directoryBad};
+ghost use Rattle.run.specs.Loops.{Firsts};
 
 const ENTRY_WORDS: usize = 4;
 
@@ -24,12 +28,34 @@ fn part(samples: &[f32], start: usize, len: usize) -> &[f32]
     &samples[start..end]
 }
 
-// The channel lookup: the part of the samples that the first entry for the channel names, or an empty part.
-pub fn lookup<'a>(directory: &[u32], samples: &'a [f32], input: u32, channel: u32) -> &'a [f32]
+// For each input the place of its first entry; where it has none, what was there. Requires at most 512 entries.
+pub(crate) fn first_entries(directory: &[u32], firsts: &mut [u16; 256])
+    requires { ⌜ (entries (now directory) ≤ maxEntries) × (length (now firsts) ≡ inputs) ⌝ }
+    ensures { λ _. ⌜ Firsts (now (directory .entry)) (now (firsts .exit)) ⌝ }
+{
+    let mut entry = directory.len() / ENTRY_WORDS;
+    while entry > 0 {
+        entry -= 1;
+        let input = directory[entry * ENTRY_WORDS];
+        if input < Step::INPUTS {
+            firsts[input as usize] = entry as u16;
+        }
+    }
+}
+
+// The channel lookup from an entry on. Requires that none before it is for the channel.
+pub(crate) fn lookup_from<'a>(
+    directory: &[u32],
+    samples: &'a [f32],
+    first: usize,
+    input: u32,
+    channel: u32,
+) -> &'a [f32]
+    requires { ⌜ ((j : ℕ) → j < entries (now directory) → j < first → entryFor (now directory) input channel j ≡ false) ⌝ }
     ensures { λ r. ⌜ now r ≡ lookup (now (directory .entry)) (now (samples .entry)) input channel ⌝ }
 {
     let n = directory.len() / ENTRY_WORDS;
-    let mut i = 0;
+    let mut i = first;
     while i < n {
         let at = i * ENTRY_WORDS;
         if (directory[at] == input) & (directory[at + 1] == channel) {
@@ -42,6 +68,13 @@ pub fn lookup<'a>(directory: &[u32], samples: &'a [f32], input: u32, channel: u3
         i += 1;
     }
     &samples[0..0]
+}
+
+// The channel lookup: the part of the samples that the first entry for the channel names, or an empty part.
+pub fn lookup<'a>(directory: &[u32], samples: &'a [f32], input: u32, channel: u32) -> &'a [f32]
+    ensures { λ r. ⌜ now r ≡ lookup (now (directory .entry)) (now (samples .entry)) input channel ⌝ }
+{
+    lookup_from(directory, samples, 0, input, channel)
 }
 
 // One of the first n entries has a part past m samples. Requires the words of all n.

@@ -12,7 +12,7 @@ use plan::Plan;
 use refusal::Answer;
 use refusal::Refusal;
 pub use settings::set_param;
-use steps::run_steps;
+use steps::run_block;
 use tests::admission;
 ghost use mathlib.Core.Path.{_≡_};
 ghost use Rattle.run.specs.Run.{given, state, processed, processAnswer};
@@ -58,7 +58,7 @@ pub fn process(
         return Ran::Refused(r);
     }
     let count = plan.words;
-    Ran::Wrote(run_steps(
+    Ran::Wrote(run_block(
         plan,
         indices,
         coefficients,

@@ -1,5 +1,6 @@
 // The steps of a run, one after another.
-use crate::directory::lookup;
+use crate::directory::first_entries;
+use crate::directory::lookup_from;
 use crate::nodes::run_gain;
 use crate::nodes::run_matrix;
 use crate::nodes::run_send;
@@ -14,15 +15,16 @@ ghost use mathlib.Core.List.{List, [], map};
 ghost use Prim.Native.Nat.{ℕ, _+_, _*_, _<_, _≤_};
 ghost use lib.ListN.{length};
 ghost use lib.Ieee.{Float};
+ghost use Rattle.plan.specs.Limits.{inputs};
 ghost use Rattle.plan.specs.Words.{decoded};
 ghost use Rattle.plan.specs.Check.{named};
 ghost use Rattle.plan.specs.Sound.{Within, IndexList, Passes};
 ghost use Rattle.plan.specs.Resolved.{resolved};
 ghost use Rattle.mix.specs.Samples.{put};
 ghost use Rattle.mix.specs.Mix.{cleared, appended, Inside};
-ghost use Rattle.run.specs.Input.{lookup, patched};
+ghost use Rattle.run.specs.Input.{maxEntries, entries, lookup, patched};
 ghost use Rattle.run.specs.Run.{state, stepped, runSteps};
-ghost use Rattle.run.specs.Loops.{channels, channelsOf, isOutput, Fit, FitStep};
+ghost use Rattle.run.specs.Loops.{channels, channelsOf, isOutput, Fit, FitStep, Firsts};
 
 // Patch: the first block samples of a channel's part, or +0 where it counts as absent. Requires that the buffer lies within the area.
 fn patch(buffers: &mut [f32], block: usize, dst: usize, part: &[f32])
@@ -63,20 +65,23 @@ fn run_output(
     wrote + from.len() * plan.block
 }
 
-// Patch. Requires a buffer of the plan, and all buffers.
+// Patch. Requires an input and a buffer of the plan, all buffers, and the first entries of the directory.
 fn run_patch(
     plan: Plan,
     buffers: &mut [f32],
     directory: &[u32],
+    firsts: &[u16],
     samples: &[f32],
     input: u32,
     channel: u32,
     dst: u32,
 )
-    requires { ⌜ (dst < plan .buffers) × (plan .buffers * plan .block ≤ length (now buffers)) ⌝ }
+    requires { ⌜ (input < inputs) × (dst < plan .buffers) × (plan .buffers * plan .block ≤ length (now buffers)) ⌝ }
+    requires { ⌜ Firsts (now directory) (now firsts) ⌝ }
     ensures { λ _. ⌜ now (buffers .exit) ≡ put (plan .block) dst (patched (plan .block) (lookup (now (directory .entry)) (now (samples .entry)) input channel)) (now (buffers .entry)) ⌝ }
 {
-    let part = lookup(directory, samples, input, channel);
+    let first = firsts[input as usize] as usize;
+    let part = lookup_from(directory, samples, first, input, channel);
     patch(buffers, plan.block, dst as usize, part);
 }
 
@@ -89,10 +94,12 @@ fn run_inside(
     words: &mut [u32],
     buffers: &mut [f32],
     directory: &[u32],
+    firsts: &[u16],
     samples: &[f32],
     step: Step,
 )
     requires { ⌜ FitStep plan (now indices) (now coefficients) (state (now floats) (now words) (now buffers) [] 0) step × (isOutput step ≡ false) ⌝ }
+    requires { ⌜ Firsts (now directory) (now firsts) ⌝ }
     ensures { λ _. ⌜ ((out : List Float) (wrote : ℕ) → state (now (floats .exit)) (now (words .exit)) (now (buffers .exit)) out wrote
         ≡ stepped (plan .block) (lookup (now (directory .entry)) (now (samples .entry))) (resolved (now (indices .entry)) (now (coefficients .entry)) step) (state (now (floats .entry)) (now (words .entry)) (now (buffers .entry)) out wrote)) ⌝ }
 {
@@ -101,7 +108,16 @@ fn run_inside(
             input,
             channel,
             dst,
-        } => run_patch(plan, buffers, directory, samples, input, channel, dst),
+        } => run_patch(
+            plan,
+            buffers,
+            directory,
+            firsts,
+            samples,
+            input,
+            channel,
+            dst,
+        ),
         Step::Gain { node, src, dst } => {
             run_gain(plan, indices, floats, words, buffers, node, src, dst)
         }
@@ -131,12 +147,14 @@ fn run_step(
     words: &mut [u32],
     buffers: &mut [f32],
     directory: &[u32],
+    firsts: &[u16],
     samples: &[f32],
     output: &mut [f32],
     wrote: usize,
     step: Step,
 ) -> usize
     requires { ⌜ FitStep plan (now indices) (now coefficients) (state (now floats) (now words) (now buffers) (now output) wrote) step × (wrote + channels step * plan .block ≤ length (now output)) ⌝ }
+    requires { ⌜ Firsts (now directory) (now firsts) ⌝ }
     ensures { λ r. ⌜ state (now (floats .exit)) (now (words .exit)) (now (buffers .exit)) (now (output .exit)) r
         ≡ stepped (plan .block) (lookup (now (directory .entry)) (now (samples .entry))) (resolved (now (indices .entry)) (now (coefficients .entry)) step) (state (now (floats .entry)) (now (words .entry)) (now (buffers .entry)) (now (output .entry)) wrote) ⌝ }
 {
@@ -151,14 +169,16 @@ fn run_step(
         words,
         buffers,
         directory,
+        firsts,
         samples,
         step,
     );
     wrote
 }
 
-// The steps of the step words, in order; the answer is how many samples were written. Requires what the tests said of the plan and its steps.
-pub fn run_steps(
+// The steps of the step words, in order; the answer is how many samples were written. Requires what the tests said of the plan and its
+// steps, and the first entries of the directory.
+fn run_steps(
     plan: Plan,
     indices: &[u32],
     coefficients: &[f32],
@@ -167,10 +187,12 @@ pub fn run_steps(
     steps: &[u32],
     buffers: &mut [f32],
     directory: &[u32],
+    firsts: &[u16],
     samples: &[f32],
     output: &mut [f32],
 ) -> usize
     requires { ⌜ Fit plan (now indices) (now coefficients) (state (now floats) (now words) (now buffers) (now output) 0) × Passes plan (now indices) (now steps) (plan .steps) 0 ⌝ }
+    requires { ⌜ Firsts (now directory) (now firsts) ⌝ }
     requires { ⌜ channelsOf (decoded (now steps) (plan .steps)) * plan .block ≤ length (now output) ⌝ }
     ensures { λ r. ⌜ state (now (floats .exit)) (now (words .exit)) (now (buffers .exit)) (now (output .exit)) r
         ≡ runSteps (plan .block) (lookup (now (directory .entry)) (now (samples .entry))) (map (resolved (now (indices .entry)) (now (coefficients .entry))) (decoded (now (steps .entry)) (plan .steps))) (state (now (floats .entry)) (now (words .entry)) (now (buffers .entry)) (now (output .entry)) 0) ⌝ }
@@ -190,6 +212,7 @@ pub fn run_steps(
             words,
             buffers,
             directory,
+            firsts,
             samples,
             output,
             wrote,
@@ -198,4 +221,40 @@ pub fn run_steps(
         at = next;
     }
     wrote
+}
+
+// All steps of a run. Requires what the tests said of the plan, its steps and the directory.
+pub fn run_block(
+    plan: Plan,
+    indices: &[u32],
+    coefficients: &[f32],
+    floats: &mut [f32],
+    words: &mut [u32],
+    steps: &[u32],
+    buffers: &mut [f32],
+    directory: &[u32],
+    samples: &[f32],
+    output: &mut [f32],
+) -> usize
+    requires { ⌜ Fit plan (now indices) (now coefficients) (state (now floats) (now words) (now buffers) (now output) 0) × Passes plan (now indices) (now steps) (plan .steps) 0 ⌝ }
+    requires { ⌜ (channelsOf (decoded (now steps) (plan .steps)) * plan .block ≤ length (now output)) × (entries (now directory) ≤ maxEntries) ⌝ }
+    ensures { λ r. ⌜ state (now (floats .exit)) (now (words .exit)) (now (buffers .exit)) (now (output .exit)) r
+        ≡ runSteps (plan .block) (lookup (now (directory .entry)) (now (samples .entry))) (map (resolved (now (indices .entry)) (now (coefficients .entry))) (decoded (now (steps .entry)) (plan .steps))) (state (now (floats .entry)) (now (words .entry)) (now (buffers .entry)) (now (output .entry)) 0) ⌝ }
+{
+    // So that a Patch need not go through the entries of other inputs; without an entry there is nothing to go through.
+    let mut firsts = [512u16; 256];
+    first_entries(directory, &mut firsts);
+    run_steps(
+        plan,
+        indices,
+        coefficients,
+        floats,
+        words,
+        steps,
+        buffers,
+        directory,
+        &firsts[..],
+        samples,
+        output,
+    )
 }

@@ -3,6 +3,7 @@ use mathlib.Core.Path.{_≡_, refl, sym, _∙_}
 use lib.Seq.{length-take-le}
 use Rattle.refusal.specs.declared.Answer.the-variants.{Accepted}
 use Rattle.run.specs.Run.{Given, State, given, state, admission}
+use Rattle.run.proofs.Input.{directory-good}
 use Rattle.run.proofs.Admission.{Admitted, admitted}
 use Rattle.run.proofs.Answers.{returned-refused, returned-accepted}
 use borrow.Author.Needs.{needs}
@@ -49,14 +50,14 @@ returns c =
 enum-told : tie.Need-enum-told
 enum-told c = search needs
 
-slice-aggregate-run-steps : tie.Need-slice-aggregate-run-steps
-slice-aggregate-run-steps c =
+slice-aggregate-run-block : tie.Need-slice-aggregate-run-block
+slice-aggregate-run-block c =
     let t = c .before .before .before in
     let s = t .before .before .before .before .before .before .before .before .before .before .before .before .before .before .before .before in
     sym (length-take-le (s .args .plan .words) (s .args .steps .now) (taken t .step-words))
 
-run-steps-requires : tie.Need-run-steps-requires
-run-steps-requires c κs = let t = taken (c .before .before .before .before .before) in ((t .fit, t .steps), t .output)
+run-block-requires : tie.Need-run-block-requires
+run-block-requires c κs = let t = taken (c .before .before .before .before .before) in ((t .fit, t .steps), (t .output, directory-good _ _ (t .directory) .few))
 
 same-length-5 : tie.Need-same-length-5
 same-length-5 c = search needs
@@ -74,8 +75,8 @@ returns-2 : tie.Need-returns-2
 returns-2 c =
     let r = c .before .before .before .before .before .before .before .before in
     let s = c .before .before .before .before .before .before .before .before .before .before .before .before .before .before .before .before .before .before .before .before .before .before .before .before .before .before .before .before .before .before in
-    let e = r .run-steps .last .1 .1 .1 in
-    returned-accepted (g s) (st s) (state (e .0) (e .1 .0) (e .1 .1 .1 .0) (e .1 .1 .1 .1 .1 .1 .0) (r .run-steps .result)) _ (fine (c .before .before .before .before .before .before .before .before .before .before .before .before .before .before)) (r .run-steps .ensures) refl
+    let e = r .run-block .last .1 .1 .1 in
+    returned-accepted (g s) (st s) (state (e .0) (e .1 .0) (e .1 .1 .1 .0) (e .1 .1 .1 .1 .1 .1 .0) (r .run-block .result)) _ (fine (c .before .before .before .before .before .before .before .before .before .before .before .before .before .before)) (r .run-block .ensures) refl
 
 pub process-spec : {M : Type 1} → statement M
 process-spec =
@@ -89,8 +90,8 @@ process-spec =
     same-length-4
     returns
     enum-told
-    slice-aggregate-run-steps
-    run-steps-requires
+    slice-aggregate-run-block
+    run-block-requires
     same-length-5
     same-length-6
     same-length-7

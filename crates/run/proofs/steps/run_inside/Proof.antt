@@ -21,36 +21,36 @@ enum-known-step : tie.Need-enum-known-step
 enum-known-step c = search needs
 
 run-patch-requires : tie.Need-run-patch-requires
-run-patch-requires c κs = let s = c .before .before .before .before .before .before .before .before .before .before .before in let f = step-as (c .before .before .step .given .1) (s .pre .0) in (f .inside .1, f .fit .buffers)
+run-patch-requires c κs = let s = c .before .before .before .before .before .before .before .before .before .before .before .before in let f = step-as (c .before .before .step .given .1) (s .pre .0 .0) in ((f .inside .0, f .inside .1, f .fit .buffers), s .pre .1)
 
 enum-known-step-2 : tie.Need-enum-known-step-2
 enum-known-step-2 c = search needs
 
 run-gain-requires : tie.Need-run-gain-requires
-run-gain-requires c κs = let s = c .before .before .before .before .before .before .before .before .before .before .before .before .before in let f = step-as (c .before .before .before .before .step2 .given .1) (s .pre .0) in (node-fit _ _ _ (f .fit) (f .inside .0) (f .inside .1) (f .inside .2), (f .narrow, f .apart))
+run-gain-requires c κs = let s = c .before .before .before .before .before .before .before .before .before .before .before .before .before .before in let f = step-as (c .before .before .before .before .step2 .given .1) (s .pre .0 .0) in (node-fit _ _ _ (f .fit) (f .inside .0) (f .inside .1) (f .inside .2), (f .narrow, f .apart))
 
 enum-known-step-3 : tie.Need-enum-known-step-3
 enum-known-step-3 c = search needs
 
 run-matrix-requires : tie.Need-run-matrix-requires
-run-matrix-requires c κs = let s = c .before .before .before .before .before .before .before .before .before .before .before .before .before in let f = step-as (c .before .before .before .before .step3 .given .1) (s .pre .0) in (node-fit _ _ _ (f .fit) (f .inside .0) (f .inside .1) (f .inside .2), (f .narrow, f .apart))
+run-matrix-requires c κs = let s = c .before .before .before .before .before .before .before .before .before .before .before .before .before .before in let f = step-as (c .before .before .before .before .step3 .given .1) (s .pre .0 .0) in (node-fit _ _ _ (f .fit) (f .inside .0) (f .inside .1) (f .inside .2), (f .narrow, f .apart))
 
 enum-known-step-4 : tie.Need-enum-known-step-4
 enum-known-step-4 c = search needs
 
 run-clear-requires : tie.Need-run-clear-requires
-run-clear-requires c κs = let s = c .before .before .before .before .before .before .before .before .before .before .before in let f = step-as (c .before .before .step4 .given .1) (s .pre .0) in (f .fit .list, f .inside, f .fit .buffers)
+run-clear-requires c κs = let s = c .before .before .before .before .before .before .before .before .before .before .before .before in let f = step-as (c .before .before .step4 .given .1) (s .pre .0 .0) in (f .fit .list, f .inside, f .fit .buffers)
 
 enum-known-step-5 : tie.Need-enum-known-step-5
 enum-known-step-5 c = search needs
 
 weights-requires : tie.Need-weights-requires
-weights-requires c κs = let s = c .before .before .before .before .before .before .before .before .before .before in let f = step-as (c .before .step5 .given .1) (s .pre .0) in omega (arith, f .inside .3, f .fit .weights)
+weights-requires c κs = let s = c .before .before .before .before .before .before .before .before .before .before .before in let f = step-as (c .before .step5 .given .1) (s .pre .0 .0) in omega (arith, f .inside .3, f .fit .weights)
 
 run-send-requires : tie.Need-run-send-requires
 run-send-requires c κs =
-    let s = c .before .before .before .before .before .before .before .before .before .before .before .before .before .before in
-    let f = step-as (c .before .before .before .before .before .step5 .given .1) (s .pre .0) in
+    let s = c .before .before .before .before .before .before .before .before .before .before .before .before .before .before .before in
+    let f = step-as (c .before .before .before .before .before .step5 .given .1) (s .pre .0 .0) in
     let h : Within (length (s .args .coefficients .now)) (c .before .before .before .before .before .step5 .given .0 .1 .1 .1 .0) = omega (arith, f .inside .3, f .fit .weights) in
     (node-fit _ _ _ (f .fit) (f .inside .0) (f .inside .1) (f .inside .2), (f .apart, weights-count (s .args .coefficients .now) _ _ h (f .inside .4) (c .before .before .before .weights .ensures)))
 
@@ -109,7 +109,7 @@ same-length-11 c = search needs
 returns-5 : tie.Need-returns-5
 unfolding stepped
 returns-5 c =
-    let a = c .before .before .before .before .before .before .before .before .before .before .before .before .before .before .before .before .before .before .before .before .before .args in
+    let a = c .before .before .before .before .before .before .before .before .before .before .before .before .before .before .before .before .before .before .before .before .before .before .args in
     let k = c .before .before .before .before .before .before .before .before .before .before .before .before .step5 .given .0 in
     let e = c .before .before .before .before .before .before .run-send .ensures in
     let n = gainOf (nodeAt (a .floats .now) (a .words .now) (k .0)) 0 in
@@ -119,7 +119,7 @@ returns-5 c =
     λ out wrote. rw (c .before .before .before .before .before .before .before .before .before .before .before .before .step5 .given .1, e .0, e .1 .0, b)
 
 returns-6 : tie.Need-returns-6
-returns-6 c = let s = c .before .before .before .before .before .before .before .before .before in absurd (true≢false (sym (ap isOutput (c .enum-told .given .1)) ∙ s .pre .1))
+returns-6 c = let s = c .before .before .before .before .before .before .before .before .before .before in absurd (true≢false (sym (ap isOutput (c .enum-told .given .1)) ∙ s .pre .0 .1))
 
 pub run-inside-spec : {M : Type 1} → statement M
 run-inside-spec =

@@ -10,27 +10,27 @@ use Rattle.run.proofs.steps.run_steps.Statement.{statement}
 use Rattle.run.proofs.steps.run_steps.Tie as tie
 
 abbrev Inv-loop : tie.InvT-loop
-Inv-loop plan indices coefficients floats₀ words₀ steps buffers₀ directory samples output₀ n wrote₀ at₀ i₀ floats words buffers output wrote at i =
+Inv-loop plan indices coefficients floats₀ words₀ steps buffers₀ directory firsts samples output₀ n wrote₀ at₀ i₀ floats words buffers output wrote at i =
     Going plan indices coefficients (lookup directory samples) steps (state floats₀ words₀ buffers₀ output₀ 0) at i (state floats words buffers output wrote)
 
 abbrev μ-loop : tie.MeasureT-loop
-μ-loop plan indices coefficients floats₀ words₀ steps buffers₀ directory samples output₀ n wrote₀ at₀ i₀ floats words buffers output wrote at i = n - i
+μ-loop plan indices coefficients floats₀ words₀ steps buffers₀ directory firsts samples output₀ n wrote₀ at₀ i₀ floats words buffers output wrote at i = n - i
 
 -- what it changes, as it stood at entry, and as it stands at the loop's head
 abbrev st : tie.Start Inv-loop μ-loop → State
 st s = state (s .args .floats .now) (s .args .words .now) (s .args .buffers .now) (s .args .output .now) 0
 
 abbrev start : tie.At-loop Inv-loop μ-loop → tie.Start Inv-loop μ-loop
-start l = l .before .before .before .before .before .before .before .before .before .before
+start l = l .before .before .before .before .before .before .before .before .before .before .before
 
 abbrev here : tie.At-loop Inv-loop μ-loop → State
 here l = state (l .loop .floats) (l .loop .words) (l .loop .buffers) (l .loop .output) (l .loop .wrote)
 
 loop-holds : tie.Need-loop-holds Inv-loop μ-loop
 loop-holds c =
-    let s = c .before .before .before .before .before .before .before .before .before in
+    let s = c .before .before .before .before .before .before .before .before .before .before in
     let a = s .args in
-    going-starts (a .plan) (a .indices .now) (a .coefficients .now) (lookup (a .directory .now) (a .samples .now)) (a .steps .now) (st s) (s .pre .0 .0) (s .pre .0 .1) refl (s .pre .1)
+    going-starts (a .plan) (a .indices .now) (a .coefficients .now) (lookup (a .directory .now) (a .samples .now)) (a .steps .now) (st s) (s .pre .0 .0) (s .pre .0 .1) refl (s .pre .1 .1)
 
 read-step-requires : tie.Need-read-step-requires Inv-loop μ-loop
 read-step-requires c κs = search needs
@@ -65,9 +65,11 @@ run-step-requires : tie.Need-run-step-requires Inv-loop μ-loop
 run-step-requires c κs =
     let l = c .before .before .before .before .before .before .before .before .before in
     let s = start l in
-    let a = s .args in
-    going-fits (a .plan) (a .indices .now) (a .coefficients .now) (lookup (a .directory .now) (a .samples .now)) (a .steps .now) (st s) (l .loop .at) (l .loop .i) (here l) (l .loop .inv) (c .before .before .before .before .before .before .before .before .loop-test .taken)
-    (sym (c .before .before .before .before .before .before .before .read-step .ensures) ∙ c .before .before .before .before .before .step .given .1)
+    let a = s .args in (
+      going-fits (a .plan) (a .indices .now) (a .coefficients .now) (lookup (a .directory .now) (a .samples .now)) (a .steps .now) (st s) (l .loop .at) (l .loop .i) (here l) (l .loop .inv) (c .before .before .before .before .before .before .before .before .loop-test .taken)
+          (sym (c .before .before .before .before .before .before .before .read-step .ensures) ∙ c .before .before .before .before .before .step .given .1),
+      s .pre .1 .0,
+    )
 
 add-i : tie.Need-add-i Inv-loop μ-loop
 add-i c = omega (arith, c .before .before .before .before .before .before .before .before .before .before .before .before .before .before .before .before .before .loop-test .taken, c .before .before .before .before .before .before .before .before .before .before .before .before .before .before .before .before .before .before .loop .inv .fit .steps)
@@ -85,7 +87,7 @@ loop-again c =
     let k = r .run-step .kept .1 .1 .1 in
     going-on (a .plan) (a .indices .now) (a .coefficients .now) (lookup (a .directory .now) (a .samples .now)) (a .steps .now) (st s) (l .loop .at) (l .loop .i) (here l) (l .loop .inv) (c .before .before .before .before .before .before .before .before .before .before .before .before .before .before .before .before .before .loop-test .taken)
     (sym (c .before .before .before .before .before .before .before .before .before .before .before .before .before .before .before .before .read-step .ensures) ∙ c .before .before .before .before .before .before .before .before .before .before .before .before .before .before .step .given .1)
-    (state (e .0) (e .1 .0) (e .1 .1 .0) (e .1 .1 .1 .1 .1 .0) (r .run-step .result)) (r .run-step .ensures) (k .0) (k .1 .0) (k .1 .1 .0) (k .1 .1 .1 .1 .1 .0)
+    (state (e .0) (e .1 .0) (e .1 .1 .0) (e .1 .1 .1 .1 .1 .1 .0) (r .run-step .result)) (r .run-step .ensures) (k .0) (k .1 .0) (k .1 .1 .0) (k .1 .1 .1 .1 .1 .1 .0)
 
 same-length-5 : tie.Need-same-length-5 Inv-loop μ-loop
 same-length-5 c = c .before .loop .inv .floats
