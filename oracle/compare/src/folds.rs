@@ -121,7 +121,7 @@ fn law(r: &mut Rng) -> Laws {
 }
 
 /// The gains that the reference works out from its laws, by its own functions.
-fn gains_of(laws: &Laws) -> FoldGains {
+pub fn gains_of(laws: &Laws) -> FoldGains {
     let (pan_left, pan_right) = format::pan_gains(0.0, laws.pan);
     FoldGains {
         pan_left,

@@ -1,9 +1,11 @@
 //! Compares the port with the reference in one process, call by call. ../README.md says what is compared.
 mod building;
 mod damaged;
+mod desks;
 mod faults;
 mod folds;
 mod judge;
+mod kinds;
 mod layouts;
 mod mapping;
 mod misbuilt;
@@ -17,6 +19,8 @@ mod refused;
 mod rng;
 mod rust;
 mod shapes;
+mod speed;
+mod stopwatch;
 mod twin;
 
 use judge::{Counts, Found, Judge};
@@ -26,7 +30,9 @@ oracle damaged SEED COUNT   COUNT good plans, each damaged at every place in tur
 oracle folds SEED COUNT     formats, balances, folds and roundings, COUNT times
 oracle show SEED            the layout of a plan
 oracle faults               plants each fault and looks whether it is found
-Exit status: 0 no difference, 1 a difference or a fault missed, 2 bad usage.";
+oracle speed [ROUNDS] [WORD...]         times of both sides, of the lines that have every word
+oracle speed [ROUNDS] kinds [WORD...]   times of each kind of step alone
+Exit status: 0 no difference, 1 a difference, a fault or a budget missed, 2 bad usage.";
 
 /// Runs cases of `count` seeds from the first on, until one differs.
 fn cases(first: u64, count: u64, case: fn(&mut Judge, u64) -> Found) -> Result<String, String> {
@@ -68,6 +74,7 @@ fn main() {
         (Some("folds"), Some(seed), Some(count)) => cases(seed, count, folds::case),
         (Some("show"), Some(seed), None) => Ok(format!("{:#?}", layouts::Gen::new(seed).layout(None))),
         (Some("faults"), None, None) if args.len() == 1 => faults::all(),
+        (Some("speed"), _, _) => speed::all(&args[1..]),
         _ => {
             eprintln!("{USAGE}");
             std::process::exit(2);

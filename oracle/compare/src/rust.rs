@@ -89,7 +89,8 @@ pub fn sources(a: &Areas, steps: &[Step]) -> Vec<Vec<u16>> {
     wired(a, steps, 1).finish().output_sources
 }
 
-fn wired(a: &Areas, steps: &[Step], block: usize) -> PlanBuilder {
+/// The builder that has called everything but `finish`, with nodes of no values.
+pub fn wired(a: &Areas, steps: &[Step], block: usize) -> PlanBuilder {
     let mut b = PlanBuilder::new(block);
     b.buffers(a.plan.buffers);
     peek::set_indices(&mut b, &a.indices[..a.plan.indices]);

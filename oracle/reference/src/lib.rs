@@ -5,3 +5,6 @@
 pub mod dsp;
 pub mod engine;
 pub mod mix;
+
+/// Whether this build has the reference's debug assertions, as the comparison wants them and a measurement does not.
+pub const CHECKED: bool = cfg!(debug_assertions);

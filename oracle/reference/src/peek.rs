@@ -53,3 +53,8 @@ pub fn step_count(b: &PlanBuilder) -> usize {
 pub fn set_indices(b: &mut PlanBuilder, list: &[u32]) {
     b.plan.indices = list.to_vec();
 }
+
+/// The source lists of all slots, which `finish` works out among other things.
+pub fn output_sources(b: &PlanBuilder) -> Vec<Vec<u16>> {
+    b.output_sources()
+}
