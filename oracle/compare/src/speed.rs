@@ -1,27 +1,50 @@
-//! `oracle speed`: the times of both sides for the same work, in turns, in one process.
-use crate::desks::{mixer as desk, Desk, Lists, Nodes, Sends, Weights};
-use crate::folds::{gains_of, FORMATS};
-use crate::judge::{doubles, floats, same, Found};
+//! `oracle speed`: the times of both sides for the same work, in turns, in one process, and again with all code at another place.
+use crate::desks::{mixer as desk, Sends, Weights};
+use crate::judge::Found;
 use crate::kinds;
-use crate::mixer::{self, FoldGains, Status, StereoReply};
-use crate::stopwatch::{Race, Table};
-use reference::mix::format::{self, Laws};
-use std::hint::black_box;
+use crate::races::{Desk, Fold, Lists, Nodes, Stereo};
+use crate::stopwatch::{Table, Times};
+use std::process::Command;
+
+/// The programs beside this one. How a loop lies in the lines of the code cache can change its time by some hundredths, and the linker places
+/// functions at any multiple of 16 bytes: so the code of both sides is measured at all four places in a line of 64, and the least time stands.
+const OTHERS: [&str; 3] = ["at16", "at32", "at48"];
+
+/// What the other programs measure, then this one, and the table of the least times.
+pub fn table(args: &[String]) -> Result<String, String> {
+    let others: Result<Vec<_>, String> = OTHERS.iter().map(|name| elsewhere(name, args).map_err(|e| format!("{name}: {e}"))).collect();
+    measured(args, Some(others?))
+}
+
+pub fn times(args: &[String]) -> Result<String, String> {
+    measured(args, None)
+}
+
+fn elsewhere(name: &str, args: &[String]) -> Result<Vec<Times>, String> {
+    let program = std::env::current_exe().map_err(|e| e.to_string())?.with_file_name(name);
+    let out = Command::new(program).arg("times").args(args).output().map_err(|e| e.to_string())?;
+    let text = String::from_utf8_lossy(&out.stdout);
+    if !out.status.success() {
+        return Err(text.lines().last().unwrap_or("no answer").to_string());
+    }
+    let time = |word: &str| word.parse::<f64>().map_err(|e| format!("{word}: {e}"));
+    let lines = text.lines().filter_map(|line| line.strip_prefix("time ")?.split_once(' '));
+    lines.map(|(rust, port)| Ok([time(rust)?, time(port)?])).collect()
+}
 
 /// `[ROUNDS] [kinds] [WORD...]`.
-pub fn all(args: &[String]) -> Result<String, String> {
+fn measured(args: &[String], others: Option<Vec<Vec<Times>>>) -> Result<String, String> {
     if reference::CHECKED {
-        return Err("speed: this build has the reference's debug assertions; oracle/speed makes one that has not".to_string());
+        return Err("this build has the reference's debug assertions; oracle/speed makes one that has not".to_string());
     }
     let rounds = args.first().and_then(|a| a.parse().ok()).filter(|n| *n > 0);
     let words = &args[rounds.is_some() as usize..];
-    let rounds = rounds.unwrap_or(200);
-    if words.first().is_some_and(|w| w == "kinds") {
-        let mut t = Table::new(rounds, &words[1..]);
+    let kinds = words.first().is_some_and(|w| w == "kinds");
+    let mut t = Table::new(rounds.unwrap_or(200), &words[kinds as usize..], others);
+    if kinds {
         kinds::all(&mut t)?;
         return t.verdict();
     }
-    let mut t = Table::new(rounds, words);
     t.head("us");
     blocks(&mut t)?;
     lists(&mut t)?;
@@ -48,77 +71,24 @@ fn blocks(t: &mut Table) -> Found {
     Ok(())
 }
 
-/// As many strips as a plan of 512 steps has room for, and 32 strips with an output each.
+/// Every strip sent to every bus, with as many strips as 512 steps have room for; then every strip to an output of its own.
 fn lists(t: &mut Table) -> Found {
     for (strips, buses) in [(32, 1), (8, 2), (32, 8), (32, 9), (24, 16), (12, 32)] {
         let layout = || desk(1, strips, buses, Weights::Full, Sends::All);
-        t.line(&format!("trace {strips}x{buses} all {buses} slots"), 1.0, Some(1.0), || Lists::new(layout()))?;
+        t.line(&format!("trace {strips}x{buses} all-sends"), 1.0, Some(1.0), || Lists::new(layout()))?;
     }
-    t.line("trace 32x32 own 32 slots", 1.0, Some(1.0), || Lists::new(desk(1, 32, 32, Weights::Full, Sends::Own)))
-}
-
-/// A fold. The reference works its gains out of decibels on the way, and allocates its matrix; the port is lent both.
-struct Fold {
-    src: usize,
-    dst: usize,
-    laws: Laws,
-    gains: FoldGains,
-    want: Vec<f32>,
-    area: Vec<f32>,
-    status: Status,
-}
-
-impl Fold {
-    fn new(src: usize, dst: usize) -> Self {
-        let laws = Laws::default();
-        let area = vec![0.0; FORMATS[src].channels() * FORMATS[dst].channels()];
-        Fold { src, dst, gains: gains_of(&laws), laws, want: Vec::new(), area, status: Status::default() }
+    for strips in [1, 8, 16, 32] {
+        let layout = || desk(1, strips, strips, Weights::Full, Sends::Own);
+        t.line(&format!("trace {strips}x{strips} own-output"), 1.0, Some(1.0), || Lists::new(layout()))?;
     }
-}
-
-impl Race for Fold {
-    fn rust(&mut self) {
-        self.want = format::width_matrix(black_box(FORMATS[self.src]), black_box(FORMATS[self.dst]), black_box(&self.laws));
-    }
-
-    fn port(&mut self) {
-        let (src, dst) = (self.src as u32, self.dst as u32);
-        self.status = mixer::width_matrix(src, dst, self.gains, self.laws.downmix.normalise, &mut self.area);
-    }
-
-    fn compare(&self) -> Found {
-        same("width_matrix", &Status::default(), &self.status)?;
-        floats("width_matrix", &self.want, &self.area)
-    }
-}
-
-#[derive(Default)]
-struct Stereo {
-    want: [f64; 4],
-    reply: StereoReply,
-}
-
-impl Race for Stereo {
-    fn rust(&mut self) {
-        self.want = black_box(format::stereo_matrix(black_box(1.25), black_box(-0.375)));
-    }
-
-    fn port(&mut self) {
-        self.reply = black_box(mixer::stereo_matrix(1.25, -0.375));
-    }
-
-    fn compare(&self) -> Found {
-        let r = &self.reply;
-        same("stereo_matrix", &Status::default(), &r.status)?;
-        doubles("stereo_matrix", &self.want, &[r.left_from_left, r.left_from_right, r.right_from_left, r.right_from_right])
-    }
+    Ok(())
 }
 
 fn folds(t: &mut Table) -> Found {
     for (name, src, dst) in
         [("5.1->stereo", 3, 1), ("7.1->stereo", 4, 1), ("stereo->mono", 1, 0), ("stereo->5.1", 1, 3), ("7.1->5.1", 4, 3)]
     {
-        t.line(&format!("fold {name}"), 1.0, None, || Ok(Fold::new(src, dst)))?;
+        t.line(&format!("width_matrix {name}"), 1.0, None, || Ok(Fold::new(src, dst)))?;
     }
-    t.line("fold stereo_matrix", 1.0, None, || Ok(Stereo::default()))
+    t.line("stereo_matrix", 1.0, None, || Ok(Stereo::default()))
 }
