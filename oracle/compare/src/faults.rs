@@ -1,13 +1,13 @@
 //! `oracle faults`: each fault planted in turn in what the reference says. A comparison that does not find one is no comparison.
 use crate::judge::{Fault, Found, Judge, FAULTS};
-use crate::{damaged, folds, plans};
+use crate::{damaged, folds, pairs, plans};
 
 type Case = fn(&mut Judge, u64) -> Found;
 
 /// The difference that a planted fault makes, from the first case that has a place for it.
 fn found(fault: Fault) -> Result<String, String> {
     let mut j = Judge { fault: Some(fault), ..Judge::default() };
-    let modes: [(Case, u64); 3] = [(plans::case, 500), (folds::case, 2), (damaged::case, 20)];
+    let modes: [(Case, u64); 4] = [(plans::case, 500), (folds::case, 2), (damaged::case, 20), (pairs::case, 200)];
     for (case, count) in modes {
         for seed in 1..=count {
             match case(&mut j, seed) {

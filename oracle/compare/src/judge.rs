@@ -1,6 +1,6 @@
 //! Comparison: the first difference ends a run. A planted fault changes what the reference says, so that a run must find it.
 use crate::mixer::Status;
-use crate::shapes::Shapes;
+use crate::shapes::{Pairs, Shapes};
 use std::fmt::Debug;
 
 /// The first difference, in words.
@@ -35,9 +35,14 @@ fn first_unlike(what: &str, reference: &[f32], port: &[f32], alike: impl Fn(f32,
     }
 }
 
-/// Floats that both sides worked out: NaN for NaN, else bit for bit.
+/// NaN for NaN, else bit for bit.
+pub fn alike(x: f32, y: f32) -> bool {
+    x.to_bits() == y.to_bits() || (x.is_nan() && y.is_nan())
+}
+
+/// Floats that both sides worked out.
 pub fn floats(what: &str, reference: &[f32], port: &[f32]) -> Found {
-    first_unlike(what, reference, port, |x, y| x.to_bits() == y.to_bits() || (x.is_nan() && y.is_nan()))
+    first_unlike(what, reference, port, alike)
 }
 
 /// Floats that nobody may touch: bit for bit, those of NaNs too.
@@ -110,6 +115,15 @@ faults! {
     DamagedNumber: "the number of a damaged plan's refusal",
     DamagedPlace: "the place of a damaged plan's refusal",
     DamagedTaken: "a damaged plan that is taken",
+    PairBit: "the last bit of an output sample of the second list",
+    PairSign: "the sign of a zero in an output of the second list",
+    PairNan: "a number where an output sample of the second list is NaN",
+    PairList: "a source list of the second build with one input less",
+    PairListed: "an input left out of the list of a slot in both builds",
+    PairSample: "the last bit of a sample that a listed input carries in the second list",
+    PairSetting: "a setting in the second list only",
+    PairRefused: "a refused setting of the second list that sets a node",
+    PairBuilt: "a refused builder call of the second build that sets a node",
 }
 
 /// What a run has compared.
@@ -125,6 +139,7 @@ pub struct Counts {
     pub accepted: u64,
     pub refused: [u64; 18],
     pub shapes: Shapes,
+    pub pairs: Pairs,
 }
 
 #[derive(Default)]

@@ -62,12 +62,12 @@ impl Gen {
         self.r.pick(&[0, 0, 1, 2, 3, any, 31])
     }
 
-    fn input(&mut self) -> u32 {
+    pub fn input(&mut self) -> u32 {
         let any = self.r.below(256) as u32;
         self.r.pick(&[0, 0, 1, 2, 3, 63, 64, any, 255])
     }
 
-    fn channel(&mut self) -> u32 {
+    pub fn channel(&mut self) -> u32 {
         let any = self.r.next() as u32;
         self.r.pick(&[0, 0, 0, 1, 1, 2, 5, any, u32::MAX])
     }
@@ -118,7 +118,7 @@ impl Gen {
         }
     }
 
-    fn nodes(&mut self, l: &mut Layout, like: Option<&Layout>, large: bool) {
+    pub fn nodes(&mut self, l: &mut Layout, like: Option<&Layout>, large: bool) {
         let count = if large { self.r.range(63, 64) } else { self.r.pick(&[0, 1, 1, 2, 3, 4, 8]) };
         let lens: Vec<usize> = match like {
             Some(old) if self.r.percent(70) => old.nodes.iter().map(|n| n.values.len()).collect(),
@@ -188,7 +188,7 @@ impl Gen {
     }
 
     /// The builder calls: each table in its order, the tables mixed.
-    fn calls(&mut self, l: &mut Layout) {
+    pub fn calls(&mut self, l: &mut Layout) {
         let (mut buffers, mut weights, mut nodes, mut steps) = (l.buffers, &l.coefficients[..], &l.nodes[..], &l.steps[..]);
         while buffers > 0 || !weights.is_empty() || !nodes.is_empty() || !steps.is_empty() {
             match self.r.below(4) {

@@ -1,5 +1,6 @@
 //! Compares the port with the reference in one process, call by call. ../README.md says what is compared.
 mod building;
+mod clean;
 mod damaged;
 mod desks;
 mod faults;
@@ -7,21 +8,26 @@ mod folds;
 mod judge;
 mod kinds;
 mod layouts;
+mod lists;
 mod mapping;
 mod misbuilt;
 mod mixer;
 mod numbers;
 mod ops;
+mod pairs;
 mod paper;
 mod plan;
 mod plans;
+mod planted;
 mod races;
 mod refused;
 mod rng;
 mod rust;
 mod shapes;
+mod signals;
 mod speed;
 mod stopwatch;
+mod strays;
 mod twin;
 
 use judge::{Counts, Found, Judge};
@@ -29,6 +35,7 @@ use judge::{Counts, Found, Judge};
 const USAGE: &str = "oracle plans SEED COUNT     COUNT random plans, the first of them of seed SEED, built, set, run, traced and adopted
 oracle damaged SEED COUNT   COUNT good plans, each damaged at every place in turn
 oracle folds SEED COUNT     formats, balances, folds and roundings, COUNT times
+oracle pairs SEED COUNT     COUNT clean plans, each built twice, and two lists of calls for each slot, alike as demand 3 has it
 oracle show SEED            the layout of a plan
 oracle faults               plants each fault and looks whether it is found
 oracle speed [ROUNDS] [WORD...]         times of both sides, of the lines that have every word
@@ -63,6 +70,10 @@ fn print(c: &Counts) {
     if c.plans > 0 && c.damaged == 0 {
         println!("shapes: {}", shapes.join(", "));
     }
+    let pairs: Vec<String> = c.pairs.list().iter().map(|(n, what)| format!("{what} {n}")).collect();
+    if c.pairs.pairs > 0 {
+        println!("pairs of lists: {}", pairs.join(", "));
+    }
     let refused: Vec<String> = (1..18).filter(|n| c.refused[*n] > 0).map(|n| format!("{n}: {}", c.refused[n])).collect();
     println!("refused calls by number: {}", refused.join(", "));
 }
@@ -86,6 +97,7 @@ pub fn main() {
         (Some("plans"), Some(seed), Some(count)) => cases(seed, count, plans::case),
         (Some("damaged"), Some(seed), Some(count)) => cases(seed, count, damaged::case),
         (Some("folds"), Some(seed), Some(count)) => cases(seed, count, folds::case),
+        (Some("pairs"), Some(seed), Some(count)) => cases(seed, count, pairs::case),
         (Some("show"), Some(seed), None) => Ok(format!("{:#?}", layouts::Gen::new(seed).layout(None))),
         (Some("faults"), None, None) if args.len() == 1 => faults::all(),
         (Some("speed"), _, _) => speed::table(&args[1..]),

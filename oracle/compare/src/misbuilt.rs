@@ -12,17 +12,17 @@ fn over(count: usize, more: usize, limit: usize) -> bool {
     count as u128 + more as u128 > limit as u128
 }
 
-fn buffers(p: &Plan, n: usize, area: usize) -> Answer<()> {
+pub fn buffers(p: &Plan, n: usize, area: usize) -> Answer<()> {
     test(over(p.buffers, n, paper::MAX_BUFFERS) || over(p.indices, n, paper::MAX_INDICES), 5)?;
     test(over(p.indices, n, area), 2)
 }
 
-fn coefficients(p: &Plan, n: usize, area: usize) -> Answer<()> {
+pub fn coefficients(p: &Plan, n: usize, area: usize) -> Answer<()> {
     test(over(p.coefficients, n, paper::MAX_COEFFICIENTS), 5)?;
     test(over(p.coefficients, n, area), 2)
 }
 
-fn node(a: &Areas, id: u32, values: usize, ramp: u32) -> Answer<()> {
+pub fn node(a: &Areas, id: u32, values: usize, ramp: u32) -> Answer<()> {
     let n = a.plan.nodes;
     test(over(n, 1, paper::MAX_NODES), 5)?;
     test(a.floats.len() < FLOATS * (n + 1) || a.words.len() < WORDS * (n + 1), 2)?;
@@ -31,7 +31,7 @@ fn node(a: &Areas, id: u32, values: usize, ramp: u32) -> Answer<()> {
     test(ramp > MAX_RAMP, 10)
 }
 
-fn step(p: &Plan, record: &[u32], area: usize) -> Answer<()> {
+pub fn step(p: &Plan, record: &[u32], area: usize) -> Answer<()> {
     use crate::plan::Step;
     test(over(p.steps, 1, paper::MAX_STEPS), 5)?;
     let need = record.first().map_or(0, |map| 1 + (map & 0x7ff).count_ones() as usize);

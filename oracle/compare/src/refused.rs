@@ -133,7 +133,7 @@ pub fn process(a: &mut Areas, input: &Input, output: &mut [f32]) -> CountReply {
     mixer::process(a.plan, &a.indices, &a.coefficients, f, w, &a.steps, b, &input.directory, &input.samples, output)
 }
 
-fn spoil_directory(g: &mut Gen, input: &mut Input) {
+pub fn spoil_directory(g: &mut Gen, input: &mut Input) {
     let d = &mut input.directory;
     match g.r.below(4) {
         0 => d.push(0),

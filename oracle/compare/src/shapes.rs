@@ -1,15 +1,15 @@
-//! Which shapes the plans of a run had, so that a run shows what it has tried.
+//! Which shapes the plans of a run had, and what its pairs had, so that a run shows what it has tried.
 use crate::mixer::Span;
 use crate::plan::{Layout, Step, VALUES};
 
-macro_rules! shapes {
-    ($($name:ident: $text:literal,)*) => {
+macro_rules! counted {
+    ($type:ident { $($name:ident: $text:literal,)* }) => {
         #[derive(Default)]
-        pub struct Shapes {
+        pub struct $type {
             $(pub $name: u64),*
         }
 
-        impl Shapes {
+        impl $type {
             pub fn list(&self) -> Vec<(u64, &'static str)> {
                 vec![$((self.$name, $text)),*]
             }
@@ -17,27 +17,59 @@ macro_rules! shapes {
     };
 }
 
-shapes! {
-    patch: "Patch",
-    gain: "Gain",
-    matrix: "Matrix",
-    clear: "Clear",
-    send: "Send",
-    output: "Output",
-    buffer_twice: "a dst with one buffer twice",
-    empty_span: "an empty span",
-    longer_dst: "a Gain whose dst is longer than its src",
-    short_node: "a node shorter than its step needs",
-    node_again: "a node that an earlier step used",
-    most_values: "a step of 24 values",
-    largest: "plans at a limit",
-    rest: "settings at once",
-    inside: "settings that end inside a block",
-    across: "settings that last over blocks",
-    nan: "NaN out",
-    infinite: "infinities out",
-    minus_zero: "-0 out",
-    subnormal: "subnormals out",
+counted! {
+    Shapes {
+        patch: "Patch",
+        gain: "Gain",
+        matrix: "Matrix",
+        clear: "Clear",
+        send: "Send",
+        output: "Output",
+        buffer_twice: "a dst with one buffer twice",
+        empty_span: "an empty span",
+        longer_dst: "a Gain whose dst is longer than its src",
+        short_node: "a node shorter than its step needs",
+        node_again: "a node that an earlier step used",
+        most_values: "a step of 24 values",
+        largest: "plans at a limit",
+        rest: "settings at once",
+        inside: "settings that end inside a block",
+        across: "settings that last over blocks",
+        nan: "NaN out",
+        infinite: "infinities out",
+        minus_zero: "-0 out",
+        subnormal: "subnormals out",
+    }
+}
+
+counted! {
+    Pairs {
+        pairs: "all",
+        other_blocks: "two different blocks",
+        block_of_one: "a block of 1",
+        no_multiple: "neither block a multiple of the other",
+        ramps: "ramps",
+        settings: "settings behind a run",
+        with_refused: "refused calls",
+        mixed: "a channel from a Gain, Matrix or Send",
+        several: "several Outputs to the slot",
+        listed: "a list that is not empty",
+        absent: "a listed channel that is absent",
+        missing: "an unlisted channel that is absent all through one list",
+        unlisted: "a Patch of an unlisted input whose samples differ",
+        not_finite: "NaN or infinity among these",
+        other_output: "another output that differs",
+        sound: "compared samples that are not all zero",
+        refused_built: "refused builder calls in all",
+        refused_set: "refused settings in all",
+        refused_run: "refused runs in all",
+    }
+}
+
+impl Pairs {
+    pub fn refused(&self) -> u64 {
+        self.refused_built + self.refused_set + self.refused_run
+    }
 }
 
 impl Shapes {
