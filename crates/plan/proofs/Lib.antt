@@ -26,5 +26,7 @@ pub mod Exact
 pub mod Accepted
 -- the check reads no more of the areas than the plan counts
 pub mod Front
+-- words after the last step are ignored
+pub mod After
 -- document 01's case 11
 pub mod Examples
