@@ -25,3 +25,5 @@ pub mod Kept
 pub mod Ramps
 -- a plan that was accepted stays accepted, and refused calls change nothing
 pub mod Ready
+-- nodes that no step uses stay as they were
+pub mod Unused

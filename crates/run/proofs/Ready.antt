@@ -156,7 +156,7 @@ ready-only f h r directory samples out =
     ∙ ap (λ (b : Bool). first (test badNode b ∷ others) Accepted) (r .nodes)
 
 -- the nodes that an accepted plan's steps use are among its nodes
-below : (p : Plan) (indices : List ℕ) (coefficients : List Float) (ss : List Step) → Each (Inside p) ss → NodesBelow (p .nodes) (map (resolved indices coefficients) ss)
+pub below : (p : Plan) (indices : List ℕ) (coefficients : List Float) (ss : List Step) → Each (Inside p) ss → NodesBelow (p .nodes) (map (resolved indices coefficients) ss)
 below p indices coefficients [] o = tt
 below p indices coefficients (Patch i c d ∷ ss) o = below p indices coefficients ss (o .1)
 below p indices coefficients (Gain n s d ∷ ss) o = (o .0 .0, below p indices coefficients ss (o .1))
