@@ -37,3 +37,4 @@ pub mod ExampleParts
 pub mod ExampleLists
 -- premises that are not idle
 pub mod ExamplePremises
+pub mod ExampleCalls
