@@ -1,5 +1,5 @@
--- A node that one step uses has max(0, r - n x block) samples of its ramp left n accepted runs after it had r, whatever other nodes are set to and
--- whichever calls are refused in between. Assumes nothing.
+-- A node that one step uses has max(0, r - n x block) samples of its ramp left n accepted runs after it had r, or was set with the ramp r, whatever other
+-- nodes are set to and whichever calls are refused in between. Assumes nothing.
 use mathlib.Core.Path.{_≡_, refl, sym, ap, _∙_, subst}
 use mathlib.Core.Bool.{cond}
 use mathlib.Core.List.{List, [], _∷_}
@@ -19,8 +19,8 @@ use Rattle.node.specs.declared.Node.{Node}
 use Rattle.node.specs.Sizes.{nodeWords}
 use Rattle.node.specs.Nodes.{setNode, finishBlock}
 use Rattle.node.specs.Areas.{idAt, leftAt, nodeAt, storedWords}
-use Rattle.node.proofs.Kept.{id-finish}
-use Rattle.node.proofs.Left.{left-finish}
+use Rattle.node.proofs.Kept.{id-set, id-finish}
+use Rattle.node.proofs.Left.{left-set, left-finish}
 use Rattle.node.proofs.Areas.{id-stored, left-stored, word-other, length-stored-words}
 use Rattle.plan.proofs.Accepted.{accepted-room}
 use Rattle.plan.specs.Resolved.{Resolved, patch, gain, matrix, clear, send, output}
@@ -29,7 +29,7 @@ use Rattle.run.specs.Setting.{nodeOf, settingWords}
 use Rattle.run.specs.Run.{Given, State, stepped, runSteps, finished, admission, processed}
 use Rattle.run.specs.Calls.{Fixed, Held, Call, set, run, givenTo, start, answer, after, afterAll, runs, NotSet, stepsOfPlan, uses}
 use Rattle.run.proofs.Answers.{accepted-runs, refused-keeps}
-use Rattle.run.proofs.Setting.{node-named, settable, words-accepted, words-refused}
+use Rattle.run.proofs.Setting.{node-named, node-only, settable, words-accepted, words-refused}
 use Rattle.run.proofs.Admission.{areas-of, admitted}
 
 -- node n of the words: its id is i, and r samples are left
@@ -169,3 +169,24 @@ module _ (f : Fixed) (n i : ℕ) (inside : n < f .plan .nodes) (once : uses n (s
       let t = run-left h r directory samples out (p, q) in
       ramp-left cs (after f h (run directory samples out)) _ (t .0) (t .1) o
       ∙ less r (outcome (answer f h (run directory samples out)) 1 (λ _. 0)) (runs f (after f h (run directory samples out)) cs) (f .plan .block)
+
+  -- an accepted setting of its id leaves r
+  own-set : (h : Held) (values : List Float) (r : ℕ) → idAt (h .words) n ≡ i → answer f h (set i values r) ≡ Accepted
+      → Has n i r (after f h (set i values r) .words)
+  unfolding nodeAt
+  own-set h values r p e =
+      let t = settable (f .plan .nodes) i r (length (h .floats)) (h .words) e in
+      let m : nodeOf (h .words) (f .plan .nodes) i ≡ n = node-only (h .words) (f .plan .nodes) i n (t .ids) (t .id-known) inside p in
+      let room : (n + 1) * nodeWords ≤ length (h .words) = omega (arith, inside, t .words-room) in
+      let new = setNode (nodeAt (h .floats) (h .words) n) values r in
+      rw (words-accepted (f .plan .nodes) i values r (h .floats) (h .words) e, m) (
+        id-stored (h .words) n new room ∙ id-set (nodeAt (h .floats) (h .words) n) values r ∙ p,
+        left-stored (h .words) n new room ∙ left-set (nodeAt (h .floats) (h .words) n) values r,
+      )
+
+  -- The theorem from a setting on: node n, which one step uses, has the id i, and an accepted setting gives it the ramp r. No accepted setting behind it is
+  -- of its id.
+  pub set-ramp : (h : Held) (values : List Float) (r : ℕ) → idAt (h .words) n ≡ i → answer f h (set i values r) ≡ Accepted → (cs : List Call)
+      → NotSet f i (after f h (set i values r)) cs
+      → leftAt (afterAll f h (set i values r ∷ cs) .words) n ≡ r - runs f h (set i values r ∷ cs) * f .plan .block
+  set-ramp h values r p e cs o = let t = own-set h values r p e in ramp-left cs (after f h (set i values r)) r (t .0) (t .1) o

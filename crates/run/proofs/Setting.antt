@@ -3,6 +3,7 @@ use mathlib.Core.Path.{_≡_, refl, sym, ap, _∙_}
 use mathlib.Core.Bool.{Bool, true, false, _||_, false≢true}
 use mathlib.Core.List.{List}
 use Prim.Native.Nat.{ℕ, zero, suc, _+_, _*_, _≤_, _<_}
+use native.Mathlib.Decide.{decLt}
 use native.Mathlib.Omega.{arith}
 use lib.ListN.{length}
 use lib.Dec.{ltb, eqb}
@@ -21,6 +22,7 @@ use Rattle.plan.specs.Limits.{unitLimits}
 use Rattle.plan.specs.Areas.{shorter}
 use Rattle.plan.specs.Check.{idAmong, idTwice}
 use Rattle.plan.proofs.Bools.{or-none}
+use Rattle.plan.proofs.Plans.{ids-none}
 use Rattle.run.specs.Setting.{nodeOf, settingTests, settingAnswer, settingFloats, settingWords}
 
 -- ---- the node of an id, turn by turn
@@ -50,6 +52,25 @@ node-named words (suc n) id e = go (eqb (idAt words n) id) refl (node-named word
         let k = node-before words id {i = suc n} {j = n} refl t in
         let f : idAmong words n id ≡ true = sym (ap (λ (b : Bool). b || idAmong words n id) t) ∙ e in
         (rw k (omega (arith, ih f .0)), ap (idAt words) k ∙ ih f .1)
+
+-- where no id is held twice, it is the only one that has it
+pub node-only : (words : List ℕ) (count id n : ℕ) → idTwice words count ≡ false → idAmong words count id ≡ true → n < count → idAt words n ≡ id
+    → nodeOf words count id ≡ n
+node-only words count id n once known inside e = go (decLt m n) (decLt n m)
+  where
+    m : ℕ
+    m = nodeOf words count id
+
+    named : (m < count) × (idAt words m ≡ id)
+    named = node-named words count id known
+
+    apart : (i j : ℕ) → i < j → j < count → idAt words i ≡ idAt words j → ⊥
+    apart = ids-none words count .0 once
+
+    go : Dec (m < n) → Dec (n < m) → m ≡ n
+    go (yes h) _ = absurd (apart m n h inside (named .1 ∙ sym e))
+    go (no h) (yes l) = absurd (apart n m l (named .0) (e ∙ sym (named .1)))
+    go (no h) (no l) = omega arith
 
 -- ---- past the tests 5 and 2
 pub record Early (count floats words : ℕ) : Type 0 where
