@@ -143,6 +143,7 @@ fn send_buffers(
     mix::send(buffers, plan.block, from, to, w, g);
 }
 
+// Gain, and the end of its node's block. Requires what the plan check said of it.
 pub fn run_gain(
     plan: Plan,
     indices: &[u32],
@@ -172,6 +173,7 @@ pub fn run_gain(
     end_block(floats, words, node as usize, plan.block);
 }
 
+// Matrix, and the end of its node's block. Requires what the plan check said of it.
 pub fn run_matrix(
     plan: Plan,
     indices: &[u32],
@@ -201,6 +203,7 @@ pub fn run_matrix(
     end_block(floats, words, node as usize, plan.block);
 }
 
+// Send, by the weights `w`, and the end of its node's block. Requires what the plan check said of it.
 pub fn run_send(
     plan: Plan,
     indices: &[u32],

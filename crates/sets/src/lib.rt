@@ -1,5 +1,6 @@
 // Sets of numbers below 256, in the place of the Rust's `BTreeSet`: the inputs behind a buffer, which are document 01's source sets, and the
 // buffers of a span.
+// All of it is for the crates above and not the interface: a function that has a `requires` says in its comment what it takes.
 ghost use mathlib.Core.Path.{_≡_};
 ghost use mathlib.Core.Bool.{false, _||_};
 ghost use mathlib.Core.List.{_++_};
@@ -28,6 +29,7 @@ fn only(i: u32, k: u32) -> u64
 }
 
 // Writes the members that one word holds, whose lowest bit is the number `base`, to `out` from `at` on, and returns the place after them.
+// Requires a base of one of the four words, and room for the members.
 fn list_word(word: u64, base: u16, at: usize, out: &mut [u16]) -> usize
     requires { ⌜ (base ≤ 192) × (at + length (places base 64 word) ≤ length (now out)) ⌝ }
     ensures { λ r. ⌜ (r ≡ at + length (places base 64 word)) × (now (out .exit) ≡ sets (now (out .entry)) at (places base 64 word)) ⌝ }
@@ -58,6 +60,7 @@ impl Set {
         }
     }
 
+    // The set with i too. Requires an i below 256.
     pub fn with(self, i: u32) -> Set
         requires { ⌜ i < 256 ⌝ }
         ensures { λ r. ⌜ ((j : ℕ) → member r j ≡ (member self j || eqb j i)) ⌝ }
@@ -118,7 +121,7 @@ impl Set {
             + u64::count_ones(self.w3)
     }
 
-    // Writes the members to the front of `out`, ascending.
+    // Writes the members to the front of `out`, ascending. Requires room for all of them.
     pub fn list(self, out: &mut [u16])
         requires { ⌜ length (members self) ≤ length (now out) ⌝ }
         ensures { λ _. ⌜ now (out .exit) ≡ members self ++ drop (length (members self)) (now (out .entry)) ⌝ }
