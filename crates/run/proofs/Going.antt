@@ -24,25 +24,6 @@ use Rattle.run.specs.Run.{State, state, stepped, runSteps}
 use Rattle.run.specs.Loops.{channels, channelsOf, Fit, FitStep}
 use Rattle.run.proofs.Outputs.{wrote-more}
 
--- other samples written, elsewhere
-pub elsewhere : {p : Plan} {indices : List ℕ} {coefficients : List Float} {s : State} {x : Step} (out : List Float) (wrote : ℕ)
-    → FitStep p indices coefficients s x → FitStep p indices coefficients (state (s .floats) (s .words) (s .buffers) out wrote) x
-elsewhere out wrote f =
-    record {
-      fit = record {
-        block = f .fit .block;
-        steps = f .fit .steps;
-        list = f .fit .list;
-        weights = f .fit .weights;
-        room = f .fit .room;
-        good = f .fit .good;
-        buffers = f .fit .buffers;
-      };
-      inside = f .inside;
-      narrow = f .narrow;
-      apart = f .apart;
-    }
-
 -- a step makes no node bad
 module _ (p : Plan) (indices : List ℕ) (coefficients : List Float) (block : ℕ) (input : ℕ → ℕ → List Float) (s : State) where
   finish-good : Fit p indices coefficients s → (n : ℕ) → n < p .nodes

@@ -9,7 +9,7 @@ pub mod Setting
 pub mod Admission
 -- what the plan check said of a step, as the sample loops ask for it
 pub mod Fits
--- which steps write samples, and how many
+-- how many samples a step writes
 pub mod Outputs
 -- the end of a block of a node at rest
 pub mod Rest

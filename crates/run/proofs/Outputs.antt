@@ -1,35 +1,20 @@
--- Which steps are an Output, and how many samples a step writes. Assumes nothing.
-use mathlib.Core.Path.{_≡_, refl}
-use mathlib.Core.Bool.{false}
-use mathlib.Core.List.{List, [], _∷_}
-use mathlib.Core.Logic.{⊎-elim}
+-- How many samples a step writes. Assumes nothing.
+use mathlib.Core.Path.{_≡_}
+use mathlib.Core.List.{List}
 use Prim.Native.Nat.{ℕ, _+_, _*_, _≤_}
 use native.Mathlib.Nat.{zero-mul}
 use native.Mathlib.Omega.{arith}
 use lib.ListN.{length}
 use lib.Ieee.{Float}
-use denote.Enum.Declared.{tagOf}
-use types.Run.{OneOf}
 use Rattle.plan.specs.declared.Plan.{Plan}
 use Rattle.plan.specs.declared.Span.{Span}
 use Rattle.plan.specs.declared.Step.{Step}
 use Rattle.plan.specs.declared.Step.the-variants.{Patch, Gain, Matrix, Clear, Send, Output}
 use Rattle.plan.specs.Resolved.{resolved}
 use Rattle.plan.specs.Sound.{Inside}
-use Rattle.plan.proofs.Step.{the-type}
 use Rattle.plan.proofs.Spans.{length-named}
 use Rattle.run.specs.Run.{State, stepped}
-use Rattle.run.specs.Loops.{channels, isOutput}
-
--- a tag that is not Output's
-pub no-output : (x : Step) → OneOf (0 ∷ 1 ∷ 2 ∷ 3 ∷ 4 ∷ []) (tagOf the-type x) → isOutput x ≡ false
-no-output (Patch i c d) h = refl
-no-output (Gain n s d) h = refl
-no-output (Matrix n s d) h = refl
-no-output (Clear d) h = refl
-no-output (Send n s d c) h = refl
-no-output (Output s o) h =
-    ⊎-elim (λ e. absurd (omega arith)) (⊎-elim (λ e. absurd (omega arith)) (⊎-elim (λ e. absurd (omega arith)) (⊎-elim (λ e. absurd (omega arith)) (λ e. absurd (omega arith))))) h
+use Rattle.run.specs.Loops.{channels}
 
 pub output-room : {x : Step} (s : Span) (o block w n : ℕ) → x ≡ Output s o → w + channels x * block ≤ n → w + s .len * block ≤ n
 output-room s o block w n e h = rw e at h

@@ -1,9 +1,10 @@
--- What the contracts of the private functions cite: the channels that a step appends to the output, and what the steps take for granted.
+-- What the contracts of the private functions cite: the channels that a step appends to the output, the first entries of a directory, and what
+-- the steps take for granted.
 -- Definitions only.
 use Prim.Native.Nat.{ℕ, _+_, _*_, _≤_, _<_}
 use mathlib.Core.Path.{_≡_}
-use mathlib.Core.Bool.{Bool, true, false}
-use mathlib.Core.List.{List, [], _∷_}
+use mathlib.Core.Bool.{false}
+use mathlib.Core.List.{List}
 use lib.ListN.{length, getD}
 use lib.Ieee.{Float}
 use Rattle.lists.specs.Parts.{part, upto}
@@ -14,7 +15,6 @@ use Rattle.node.specs.Areas.{Room, nodeAt, someBad}
 use Rattle.plan.specs.declared.Plan.{Plan}
 use Rattle.plan.specs.declared.Span.{Span}
 use Rattle.plan.specs.declared.Step.{Step}
-use Rattle.plan.specs.declared.Step.the-variants.{Patch, Gain, Matrix, Clear, Send, Output}
 use Rattle.plan.specs.Limits.{maxBlock, inputs, unitLimits}
 use Rattle.plan.specs.Sound.{Within, Inside, Narrow, Apart, IndexList}
 pub use Rattle.plan.specs.Loops.{channels}
@@ -28,16 +28,6 @@ use Rattle.run.specs.Run.{State}
 pub record Firsts (directory firsts : List ℕ) : Type 0 where
   pub all : length firsts ≡ inputs
   pub before : (input i : ℕ) → i < entries directory → i < getD firsts input 0 → entryWord directory i 0 ≡ input → ⊥
-
--- ---- the output
-
-abbrev pub isOutput : Step → Bool
-isOutput (Patch i c d) = false
-isOutput (Gain n s d) = false
-isOutput (Matrix n s d) = false
-isOutput (Clear d) = false
-isOutput (Send n s d c) = false
-isOutput (Output s o) = true
 
 -- ---- what the tests said
 

@@ -44,7 +44,7 @@ pub(crate) fn first_entries(directory: &[u32], firsts: &mut [u16; 256])
 }
 
 // The channel lookup from an entry on. Requires that none before it is for the channel.
-pub(crate) fn lookup_from<'a>(
+fn lookup_from<'a>(
     directory: &[u32],
     samples: &'a [f32],
     first: usize,
@@ -68,6 +68,21 @@ pub(crate) fn lookup_from<'a>(
         i += 1;
     }
     &samples[0..0]
+}
+
+// The channel lookup from the first entry of the input on. Requires an input of a plan, and the first entries of the directory.
+pub(crate) fn lookup_first<'a>(
+    directory: &[u32],
+    firsts: &[u16],
+    samples: &'a [f32],
+    input: u32,
+    channel: u32,
+) -> &'a [f32]
+    requires { ⌜ (input < inputs) × Firsts (now directory) (now firsts) ⌝ }
+    ensures { λ r. ⌜ now r ≡ lookup (now (directory .entry)) (now (samples .entry)) input channel ⌝ }
+{
+    let first = firsts[input as usize] as usize;
+    lookup_from(directory, samples, first, input, channel)
 }
 
 // The channel lookup: the part of the samples that the first entry for the channel names, or an empty part.

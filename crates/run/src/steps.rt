@@ -1,6 +1,6 @@
 // The steps of a run, one after another.
 use crate::directory::first_entries;
-use crate::directory::lookup_from;
+use crate::directory::lookup_first;
 use crate::nodes::run_gain;
 use crate::nodes::run_matrix;
 use crate::nodes::run_send;
@@ -10,12 +10,9 @@ use plan::Read;
 use plan::Span;
 use plan::Step;
 ghost use mathlib.Core.Path.{_≡_};
-ghost use mathlib.Core.Bool.{false};
-ghost use mathlib.Core.List.{List, [], map};
-ghost use Prim.Native.Nat.{ℕ, _+_, _*_, _<_, _≤_};
+ghost use mathlib.Core.List.{map};
+ghost use Prim.Native.Nat.{_+_, _*_, _≤_};
 ghost use lib.ListN.{length};
-ghost use lib.Ieee.{Float};
-ghost use Rattle.plan.specs.Limits.{inputs};
 ghost use Rattle.plan.specs.Words.{decoded};
 ghost use Rattle.plan.specs.Check.{named};
 ghost use Rattle.plan.specs.Sound.{Within, IndexList, Passes};
@@ -24,7 +21,7 @@ ghost use Rattle.mix.specs.Samples.{put};
 ghost use Rattle.mix.specs.Mix.{cleared, appended, Inside};
 ghost use Rattle.run.specs.Input.{maxEntries, entries, lookup, patched};
 ghost use Rattle.run.specs.Run.{state, stepped, runSteps};
-ghost use Rattle.run.specs.Loops.{channels, channelsOf, isOutput, Fit, FitStep, Firsts};
+ghost use Rattle.run.specs.Loops.{channels, channelsOf, Fit, FitStep, Firsts};
 
 // Patch: the first block samples of a channel's part, or +0 where it counts as absent. Requires that the buffer lies within the area.
 fn patch(buffers: &mut [f32], block: usize, dst: usize, part: &[f32])
@@ -65,80 +62,8 @@ fn run_output(
     wrote + from.len() * plan.block
 }
 
-// Patch. Requires an input and a buffer of the plan, all buffers, and the first entries of the directory.
-fn run_patch(
-    plan: Plan,
-    buffers: &mut [f32],
-    directory: &[u32],
-    firsts: &[u16],
-    samples: &[f32],
-    input: u32,
-    channel: u32,
-    dst: u32,
-)
-    requires { ⌜ (input < inputs) × (dst < plan .buffers) × (plan .buffers * plan .block ≤ length (now buffers)) ⌝ }
-    requires { ⌜ Firsts (now directory) (now firsts) ⌝ }
-    ensures { λ _. ⌜ now (buffers .exit) ≡ put (plan .block) dst (patched (plan .block) (lookup (now (directory .entry)) (now (samples .entry)) input channel)) (now (buffers .entry)) ⌝ }
-{
-    let first = firsts[input as usize] as usize;
-    let part = lookup_from(directory, samples, first, input, channel);
-    patch(buffers, plan.block, dst as usize, part);
-}
-
-// A step that is no Output. Requires what the tests said of the plan and of it.
-fn run_inside(
-    plan: Plan,
-    indices: &[u32],
-    coefficients: &[f32],
-    floats: &mut [f32],
-    words: &mut [u32],
-    buffers: &mut [f32],
-    directory: &[u32],
-    firsts: &[u16],
-    samples: &[f32],
-    step: Step,
-)
-    requires { ⌜ FitStep plan (now indices) (now coefficients) (state (now floats) (now words) (now buffers) [] 0) step × (isOutput step ≡ false) ⌝ }
-    requires { ⌜ Firsts (now directory) (now firsts) ⌝ }
-    ensures { λ _. ⌜ ((out : List Float) (wrote : ℕ) → state (now (floats .exit)) (now (words .exit)) (now (buffers .exit)) out wrote
-        ≡ stepped (plan .block) (lookup (now (directory .entry)) (now (samples .entry))) (resolved (now (indices .entry)) (now (coefficients .entry)) step) (state (now (floats .entry)) (now (words .entry)) (now (buffers .entry)) out wrote)) ⌝ }
-{
-    match step {
-        Step::Patch {
-            input,
-            channel,
-            dst,
-        } => run_patch(
-            plan,
-            buffers,
-            directory,
-            firsts,
-            samples,
-            input,
-            channel,
-            dst,
-        ),
-        Step::Gain { node, src, dst } => {
-            run_gain(plan, indices, floats, words, buffers, node, src, dst)
-        }
-        Step::Matrix { node, src, dst } => {
-            run_matrix(plan, indices, floats, words, buffers, node, src, dst)
-        }
-        Step::Clear { dst } => run_clear(plan, indices, buffers, dst),
-        Step::Send {
-            node,
-            src,
-            dst,
-            coefficients: span,
-        } => {
-            let w = weights(coefficients, span);
-            run_send(plan, indices, w, floats, words, buffers, node, src, dst)
-        }
-        Step::Output { src: _, slot: _ } => {}
-    }
-}
-
-// A step, after `wrote` samples of output; the answer is how many are written then. Requires what the tests said of the plan and of it.
+// A step, after `wrote` samples of output; the answer is how many are written then. Requires what the tests said of the plan and of it, and
+// the first entries of the directory. All kinds are in one match: a second one costs some nanoseconds a step.
 fn run_step(
     plan: Plan,
     indices: &[u32],
@@ -158,21 +83,35 @@ fn run_step(
     ensures { λ r. ⌜ state (now (floats .exit)) (now (words .exit)) (now (buffers .exit)) (now (output .exit)) r
         ≡ stepped (plan .block) (lookup (now (directory .entry)) (now (samples .entry))) (resolved (now (indices .entry)) (now (coefficients .entry)) step) (state (now (floats .entry)) (now (words .entry)) (now (buffers .entry)) (now (output .entry)) wrote) ⌝ }
 {
-    if let Step::Output { src, slot: _ } = step {
-        return run_output(plan, indices, &buffers[..], output, wrote, src);
+    match step {
+        Step::Patch {
+            input,
+            channel,
+            dst,
+        } => {
+            let part = lookup_first(directory, firsts, samples, input, channel);
+            patch(buffers, plan.block, dst as usize, part);
+        }
+        Step::Gain { node, src, dst } => {
+            run_gain(plan, indices, floats, words, buffers, node, src, dst)
+        }
+        Step::Matrix { node, src, dst } => {
+            run_matrix(plan, indices, floats, words, buffers, node, src, dst)
+        }
+        Step::Clear { dst } => run_clear(plan, indices, buffers, dst),
+        Step::Send {
+            node,
+            src,
+            dst,
+            coefficients: span,
+        } => {
+            let w = weights(coefficients, span);
+            run_send(plan, indices, w, floats, words, buffers, node, src, dst)
+        }
+        Step::Output { src, slot: _ } => {
+            return run_output(plan, indices, &buffers[..], output, wrote, src);
+        }
     }
-    run_inside(
-        plan,
-        indices,
-        coefficients,
-        floats,
-        words,
-        buffers,
-        directory,
-        firsts,
-        samples,
-        step,
-    );
     wrote
 }
 
@@ -197,10 +136,9 @@ fn run_steps(
     ensures { λ r. ⌜ state (now (floats .exit)) (now (words .exit)) (now (buffers .exit)) (now (output .exit)) r
         ≡ runSteps (plan .block) (lookup (now (directory .entry)) (now (samples .entry))) (map (resolved (now (indices .entry)) (now (coefficients .entry))) (decoded (now (steps .entry)) (plan .steps))) (state (now (floats .entry)) (now (words .entry)) (now (buffers .entry)) (now (output .entry)) 0) ⌝ }
 {
-    let n = plan.steps;
     let mut wrote = 0;
     let mut at = 0;
-    for i in 0..n {
+    for i in 0..plan.steps {
         let Read::Found(step, next) = plan::read_step(steps, at) else {
             return wrote;
         };
