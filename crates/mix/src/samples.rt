@@ -129,9 +129,7 @@ pub fn store(x: &[f32; 16], y: &mut [f32])
     requires { ⌜ length (now x) ≡ 16 ⌝ }
     ensures { λ _. ⌜ now (y .exit) ≡ sampled (length (now (y .entry))) (λ i. getD (now (x .entry)) i nan) ⌝ }
 {
-    for i in 0..y.len() {
-        y[i] = x[i];
-    }
+    copy(&x[..], y);
 }
 
 // y becomes the start of x. Requires an x that is long enough.
