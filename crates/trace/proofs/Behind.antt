@@ -3,7 +3,7 @@
 use mathlib.Core.Path.{_≡_, refl, sym, ap, _∙_}
 use mathlib.Core.Bool.{Bool, true, false, _&&_, _||_, cond, false≢true}
 use mathlib.Core.List.{List, [], _∷_, map}
-use Prim.Native.Nat.{ℕ, zero, suc, _<_, max}
+use Prim.Native.Nat.{ℕ, zero, suc, _<_, _≤_, max}
 use native.Mathlib.Omega.{arith}
 use lib.Dec.{eqb}
 use lib.ListN.{length, getD}
@@ -14,7 +14,7 @@ use Rattle.sets.proofs.Sift.{sift-same, sift-entry, sift-ascends, sift-lists}
 use Rattle.plan.specs.declared.Plan.{Plan}
 use Rattle.plan.specs.declared.Step.{Step}
 use Rattle.plan.specs.declared.Step.the-variants.{Patch, Gain, Matrix, Clear, Send, Output}
-use Rattle.plan.specs.Limits.{inputs}
+use Rattle.plan.specs.Limits.{inputs, slots}
 use Rattle.plan.specs.Check.{has}
 use Rattle.plan.specs.Sound.{Inside, Each, stepsOf, Sound}
 use Rattle.plan.specs.Resolved.{Resolved, patch, gain, matrix, clear, send, output, resolved, resolvedSteps}
@@ -93,6 +93,17 @@ inside-known p indices xs (Matrix n a d ∷ ss) e = inside-known p indices xs ss
 inside-known p indices xs (Clear d ∷ ss) e = inside-known p indices xs ss (e .1)
 inside-known p indices xs (Send n a d c ∷ ss) e = inside-known p indices xs ss (e .1)
 inside-known p indices xs (Output a o ∷ ss) e = inside-known p indices xs ss (e .1)
+
+-- and every slot of an Output below 32, and so at most 32 slots
+pub inside-slots : (p : Plan) (indices : List ℕ) (xs : List Float) (ss : List Step) → Each (Inside p) ss → slotCount (map (resolved indices xs) ss) ≤ slots
+unfolding slotCount
+inside-slots p indices xs [] e = omega arith
+inside-slots p indices xs (Patch n c d ∷ ss) e = inside-slots p indices xs ss (e .1)
+inside-slots p indices xs (Gain n a d ∷ ss) e = inside-slots p indices xs ss (e .1)
+inside-slots p indices xs (Matrix n a d ∷ ss) e = inside-slots p indices xs ss (e .1)
+inside-slots p indices xs (Clear d ∷ ss) e = inside-slots p indices xs ss (e .1)
+inside-slots p indices xs (Send n a d c ∷ ss) e = inside-slots p indices xs ss (e .1)
+inside-slots p indices xs (Output a o ∷ ss) e = omega (arith, e .0 .1, inside-slots p indices xs ss (e .1))
 
 pub sound-known : {p : Plan} {short : Bool} {indices words steps : List ℕ} (xs : List Float) → Sound p short indices words steps
     → Known (resolvedSteps p indices xs steps)

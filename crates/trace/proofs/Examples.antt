@@ -1,8 +1,9 @@
 -- Document 01's case 8, and a plan with a fault of its own, over the step words and by computation alone. Assumes nothing.
 use mathlib.Core.Path.{_≡_, refl, _∙_}
-use mathlib.Core.List.{List, [], _∷_}
+use mathlib.Core.List.{List, [], _∷_, _++_}
 use Prim.Native.Nat.{ℕ}
 use lib.Count.{ones, onesIn}
+use lib.ListN.{replicate}
 use lib.Ieee.{Float}
 use Rattle.refusal.specs.Tests.{refusal}
 use Rattle.sets.specs.Sets.{sift}
@@ -12,7 +13,7 @@ use Rattle.plan.specs.Check.{someFrom, idAmong, idTwice, outside, tooWide, has,
 use Rattle.plan.specs.Resolved.{resolvedSteps}
 use Rattle.trace.specs.Sources.{union, spread, joins, behind, sourceList, slotCount}
 use Rattle.trace.specs.Clean.{written, all, cleanStep, cleanFrom, clean}
-use Rattle.trace.specs.Calls.{tracedSteps, traceAnswer, sourcesAnswer, sourcesArea, cleanAnswer}
+use Rattle.trace.specs.Calls.{tracedSteps, traceAnswer, sourcesAnswer, sourcesArea, allTraced, allAnswer, allCounts, allLists, cleanAnswer}
 use Rattle.trace.specs.declared.Sources.{Sources}
 use Rattle.trace.specs.declared.Sources.the-variants.{Listed, Refused}
 use Rattle.trace.specs.declared.CleanAnswer.the-variants.{Clean, NotClean}
@@ -60,6 +61,21 @@ case-8-slot-2 = (refl, refl)
 pub case-8-slot-3 : (answered 3 3 ≡ Refused (refusal 15 0)) × (left 3 3 ≡ 9 ∷ [])
 unfolding sourcesAnswer sourcesArea traceAnswer someFrom idAmong idTwice stepsTests readAt stepOf ones onesIn outside tooWide has meet shares decoded decodedFrom sift union spread joins behind sourceList slotCount
 case-8-slot-3 = (refl, refl)
+
+-- the three at once: how many inputs each slot has, and the inputs of slot 2 from its 256 places on; all else stays 9
+abbrev all-at-once : ℕ → ℕ → Sources
+all-at-once m n = allAnswer plan indices (7 ∷ 1 ∷ 0 ∷ []) (steps 3) m n
+
+pub case-8-all : (all-at-once 4 768 ≡ Listed 3)
+    × (allCounts plan indices (7 ∷ 1 ∷ 0 ∷ []) (steps 3) (9 ∷ 9 ∷ 9 ∷ 9 ∷ []) 768 ≡ 0 ∷ 0 ∷ 1 ∷ 9 ∷ [])
+    × (allLists plan indices (7 ∷ 1 ∷ 0 ∷ []) (steps 3) 4 (replicate 768 9) ≡ replicate 512 9 ++ 3 ∷ replicate 255 9)
+unfolding allAnswer allCounts allLists allTraced someFrom idAmong idTwice stepsTests readAt stepOf ones onesIn outside tooWide has meet shares decoded decodedFrom sift union spread joins behind sourceList slotCount
+case-8-all = (refl, refl, refl)
+
+-- one place less, for the counts or for the lists, is refused 2
+pub case-8-short : (all-at-once 2 768 ≡ Refused (refusal 2 0)) × (all-at-once 3 767 ≡ Refused (refusal 2 0))
+unfolding allAnswer allTraced someFrom idAmong idTwice stepsTests readAt stepOf ones onesIn outside tooWide has meet shares decoded decodedFrom sift union spread joins behind sourceList slotCount
+case-8-short = (refl, refl)
 
 -- the input is listed whatever the weight is, and so where it is 0
 list-2 : sourceList 2 (tracedSteps plan indices (steps 3)) ≡ 3 ∷ []

@@ -6,8 +6,10 @@ pub mod Behind
 pub mod Answers
 -- document 01's case 8, and a plan with a fault of its own
 pub mod Examples
--- for this crate's own proofs: the area of the source sets, the walks of the trace and of the clean answer, and the ways out of both calls
+-- for this crate's own proofs: the area of the source sets, the walks of the trace and of the clean answer, the areas of all lists, and the ways out
+-- of the calls
 mod Stored
 mod Walking
+mod Handed
 mod Outcomes
 mod Cleaning

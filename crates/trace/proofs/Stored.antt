@@ -19,7 +19,7 @@ use Rattle.plan.specs.Check.{has}
 use Rattle.plan.proofs.Bools.{eqb-swap}
 use Rattle.plan.proofs.Scans.{Listed, has-listed, listed-here, listed-end}
 use Rattle.trace.specs.Sources.{noSources, union}
-use Rattle.trace.specs.Loops.{areaWords, setAt, sourcesOf, changed, other, joined}
+use Rattle.trace.specs.Loops.{setAt, sourcesOf, changed, other, joined}
 
 -- ---- the store of one set
 module _ (area : List ℕ) (b : ℕ) (s : Set) where
@@ -30,8 +30,8 @@ module _ (area : List ℕ) (b : ℕ) (s : Set) where
   stored-sets : stored ≡ sets area (b * 4) (words s)
   stored-sets = simp unary-clauses
 
-  pub stored-sources : b < 256 → length area ≡ areaWords → (c i : ℕ) → sourcesOf stored c i ≡ cond (eqb c b) (member s i) (sourcesOf area c i)
-  stored-sources h l c i = go (eqb c b) refl
+  pub stored-sources : b * 4 + 4 ≤ length area → (c i : ℕ) → sourcesOf stored c i ≡ cond (eqb c b) (member s i) (sourcesOf area c i)
+  stored-sources h c i = go (eqb c b) refl
     where
       -- word k of the set that was stored, and of another
       here : (k j : ℕ) → k < 4 → j ≡ b * 4 + k → getD stored j 0 ≡ getD (words s) k 0
@@ -84,6 +84,11 @@ zeros n = λ t b i. at b i t
         ap (λ (x : Set). member x i)
         (λ t. record { w0 = zero-at (b * 4) t; w1 = zero-at (b * 4 + 1) t; w2 = zero-at (b * 4 + 2) t; w3 = zero-at (b * 4 + 3) t })
         ∙ member-empty i
+
+-- sets that are added to it
+pub zeros-or : (n : ℕ) (area : List ℕ) (f : ℕ → ℕ → Bool) → ((b i : ℕ) → sourcesOf area b i ≡ (sourcesOf (replicate n 0) b i || f b i))
+    → (b i : ℕ) → sourcesOf area b i ≡ f b i
+zeros-or n area f e b i = e b i ∙ ap (λ (g : ℕ → ℕ → Bool). g b i || f b i) (zeros n)
 
 -- ---- the same change by another name
 pub changed-as : (f g : ℕ → Bool → Bool) (sources : ℕ → ℕ → Bool) {xs ys : List ℕ} → ((i : ℕ) (x : Bool) → f i x ≡ g i x) → xs ≡ ys

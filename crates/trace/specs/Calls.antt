@@ -1,16 +1,18 @@
--- `output_sources` and the clean answer as calls. Both are lent the index list, the node words and the step words, and no coefficients, which
--- neither reads. Definitions only.
-use Prim.Native.Nat.{ℕ}
-use mathlib.Core.Bool.{cond}
+-- `output_sources`, `all_sources` and the clean answer as calls. Each is lent the index list, the node words and the step words, and no
+-- coefficients, which none reads. Definitions only.
+use Prim.Native.Nat.{ℕ, zero, suc, _*_}
+use mathlib.Core.Bool.{_||_, cond}
 use mathlib.Core.List.{List, [], _∷_, _++_}
 use lib.Dec.{ltb, leb}
 use lib.ListN.{length}
 use lib.Seq.{sets}
+use Rattle.lists.specs.Parts.{upto}
 use Rattle.refusal.specs.Numbers.{shortArea, noSlot}
 use Rattle.refusal.specs.Tests.{Test, test, first, outcome, areaAfter}
 use Rattle.refusal.specs.declared.Answer.{Answer}
 use Rattle.refusal.specs.declared.Answer.the-variants.{Accepted}
 use Rattle.plan.specs.declared.Plan.{Plan}
+use Rattle.plan.specs.Limits.{inputs}
 use Rattle.plan.specs.Areas.{shortLists}
 use Rattle.plan.specs.Check.{planTests, checked}
 use Rattle.plan.specs.Resolved.{Resolved, resolvedSteps}
@@ -49,6 +51,46 @@ unfoldable pub sourcesArea : Plan → ℕ → List ℕ → List ℕ → List ℕ
 unfolding traceAnswer
 sourcesArea p slot indices words steps area =
     areaAfter (traceAnswer p slot indices words steps (length area)) (sets area 0 (sourceList slot (tracedSteps p indices steps))) area
+
+-- ---- `all_sources`: the plan's tests, then 2 where the counts' area, of m places, has fewer than there are slots, or the lists' area, of n places,
+-- fewer than 256 a slot
+
+abbrev pub allTests : Plan → List ℕ → List ℕ → List ℕ → ℕ → ℕ → List Test
+allTests p indices words steps m n =
+    planTests p (shortLists p indices words steps) indices words steps
+    ++ test shortArea (ltb m (slotCount (tracedSteps p indices steps)) || ltb n (slotCount (tracedSteps p indices steps) * inputs))
+    ∷ []
+
+unfoldable pub allTraced : Plan → List ℕ → List ℕ → List ℕ → ℕ → ℕ → Answer
+unfolding slotCount
+allTraced p indices words steps m n = first (allTests p indices words steps m n) Accepted
+
+-- what it answers: the count of the slots, or the refusal
+unfoldable pub allAnswer : Plan → List ℕ → List ℕ → List ℕ → ℕ → ℕ → Sources
+unfolding allTraced
+allAnswer p indices words steps m n =
+    outcome (allTraced p indices words steps m n) (sources.Listed (slotCount (tracedSteps p indices steps))) sources.Refused
+
+-- both areas once the first n slots are done, where slot s has the inputs `list s`: how many these are at place s, and the inputs from s * 256 on
+abbrev pub countsOf : (ℕ → List ℕ) → ℕ → List ℕ → List ℕ
+countsOf list n counts = upto n (λ s. length (list s)) counts
+
+abbrev pub listsOf : (ℕ → List ℕ) → ℕ → List ℕ → List ℕ
+listsOf list zero lists = lists
+listsOf list (suc s) lists = sets (listsOf list s lists) (s * inputs) (list s)
+
+-- the areas after the call: every slot is done, with its own list
+unfoldable pub allCounts : Plan → List ℕ → List ℕ → List ℕ → List ℕ → ℕ → List ℕ
+unfolding allTraced
+allCounts p indices words steps counts n =
+    areaAfter (allTraced p indices words steps (length counts) n)
+    (countsOf (λ s. sourceList s (tracedSteps p indices steps)) (slotCount (tracedSteps p indices steps)) counts) counts
+
+unfoldable pub allLists : Plan → List ℕ → List ℕ → List ℕ → ℕ → List ℕ → List ℕ
+unfolding allTraced
+allLists p indices words steps m lists =
+    areaAfter (allTraced p indices words steps m (length lists))
+    (listsOf (λ s. sourceList s (tracedSteps p indices steps)) (slotCount (tracedSteps p indices steps)) lists) lists
 
 -- ---- the clean answer: the plan's tests
 

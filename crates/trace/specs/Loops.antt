@@ -1,13 +1,12 @@
 -- What the contracts of the private functions cite: the source sets of all buffers in an area of words, what a loop over a list of buffers makes
 -- of them, and what the walk takes for granted. Definitions only.
-use Prim.Native.Nat.{ℕ, _+_, _*_, _≤_}
+use Prim.Native.Nat.{ℕ, suc, _+_, _*_, _≤_, max}
 use mathlib.Core.Path.{_≡_}
-use mathlib.Core.Bool.{Bool, false, _||_, cond}
+use mathlib.Core.Bool.{Bool, _||_, cond}
 use mathlib.Core.List.{List}
-use lib.Dec.{leb}
 use lib.ListN.{length, getD}
 use Rattle.sets.specs.declared.Set.{Set}
-use Rattle.sets.specs.Sets.{member}
+use Rattle.sets.specs.Sets.{member, members}
 use Rattle.plan.specs.declared.Plan.{Plan}
 use Rattle.plan.specs.declared.Span.{Span}
 use Rattle.plan.specs.declared.Step.{Step}
@@ -16,10 +15,13 @@ use Rattle.plan.specs.Limits.{unitLimits}
 use Rattle.plan.specs.Check.{has}
 use Rattle.plan.specs.Sound.{Within, Inside, IndexList, Passes}
 
--- ---- the area: four words for each of 256 buffers
+-- ---- the areas: four words for each of 256 buffers, and for each of 32 slots
 
 abbrev pub areaWords : ℕ
 areaWords = 1024
+
+abbrev pub slotWords : ℕ
+slotWords = 128
 
 abbrev pub setAt : List ℕ → ℕ → Set
 setAt area b =
@@ -28,6 +30,10 @@ setAt area b =
 -- its sets, as the definition of the trace has them: whether input i is in the set of buffer b
 abbrev pub sourcesOf : List ℕ → ℕ → ℕ → Bool
 sourcesOf area b i = member (setAt area b) i
+
+-- and the members of one, ascending
+abbrev pub listAt : List ℕ → ℕ → List ℕ
+listAt area b = members (setAt area b)
 
 -- ---- loops over a list of buffers: the set of each becomes what f makes of it, input by input
 abbrev pub changed : (ℕ → Bool → Bool) → (ℕ → ℕ → Bool) → List ℕ → ℕ → ℕ → Bool
@@ -60,11 +66,11 @@ pub record Spans (p : Plan) (indices area : List ℕ) (src dst : Span) : Type 0 
   pub targets : Within (p .indices) dst
   pub room : length area ≡ areaWords
 
--- ---- the slots: a step is an Output to slot s or to a higher one
-abbrev pub names : ℕ → Step → Bool
-names s (Patch i c d) = false
-names s (Gain n a d) = false
-names s (Matrix n a d) = false
-names s (Clear d) = false
-names s (Send n a d c) = false
-names s (Output a o) = leb s o
+-- ---- the count of slots where step x comes to those before it
+abbrev pub withSlot : ℕ → Step → ℕ
+withSlot n (Patch i c d) = n
+withSlot n (Gain k a d) = n
+withSlot n (Matrix k a d) = n
+withSlot n (Clear d) = n
+withSlot n (Send k a d c) = n
+withSlot n (Output a o) = max (suc o) n

@@ -1,8 +1,8 @@
-// The source sets of the buffers, four words for each, in an area of words.
+// The source sets of the buffers, or of the slots, four words for each, in an area of words.
 use sets::Set;
 ghost use mathlib.Core.Path.{_≡_};
 ghost use mathlib.Core.Bool.{false, cond};
-ghost use Prim.Native.Nat.{ℕ, _<_};
+ghost use Prim.Native.Nat.{ℕ, _+_, _*_, _≤_};
 ghost use lib.Dec.{eqb};
 ghost use lib.ListN.{length};
 ghost use Rattle.sets.specs.Sets.{member};
@@ -10,9 +10,9 @@ ghost use Rattle.plan.specs.Check.{someFrom};
 ghost use Rattle.trace.specs.Sources.{union};
 ghost use Rattle.trace.specs.Loops.{areaWords, setAt, sourcesOf, changed, other, joined};
 
-// The set of one buffer. Requires one of 256, and the words of all.
-fn load(area: &[u64], b: u32) -> Set
-    requires { ⌜ (b < 256) × (length (now area) ≡ areaWords) ⌝ }
+// The set of one buffer, or of one slot. Requires its words in the area.
+pub(crate) fn load(area: &[u64], b: u32) -> Set
+    requires { ⌜ b * 4 + 4 ≤ length (now area) ⌝ }
     ensures { λ r. ⌜ r ≡ setAt (now (area .entry)) b ⌝ }
 {
     let at = b as usize * 4;
@@ -26,7 +26,7 @@ fn load(area: &[u64], b: u32) -> Set
 
 // Requires as `load`.
 pub(crate) fn store(area: &mut [u64], b: u32, set: Set)
-    requires { ⌜ (b < 256) × (length (now area) ≡ areaWords) ⌝ }
+    requires { ⌜ b * 4 + 4 ≤ length (now area) ⌝ }
     ensures { λ _. ⌜ ((c i : ℕ) → sourcesOf (now (area .exit)) c i ≡ cond (eqb c b) (member set i) (sourcesOf (now (area .entry)) c i)) ⌝ }
 {
     let at = b as usize * 4;

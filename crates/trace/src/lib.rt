@@ -4,19 +4,22 @@ mod clean;
 mod slots;
 mod walk;
 
+use buffer_sets::load;
 use clean::all_clean;
 use plan::Plan;
 use refusal::Answer;
 use refusal::Refusal;
-use slots::has_slot;
+use slots::LIST_PLACES;
+use slots::SLOT_WORDS;
+use slots::hand_out;
 use walk::behind;
 ghost use mathlib.Core.Path.{_≡_};
 ghost use lib.ListN.{length};
 ghost use Rattle.plan.specs.Areas.{shortLists};
 ghost use Rattle.plan.specs.Check.{checked};
-ghost use Rattle.trace.specs.Calls.{sourcesAnswer, sourcesArea, cleanAnswer};
+ghost use Rattle.trace.specs.Calls.{sourcesAnswer, sourcesArea, allAnswer, allCounts, allLists, cleanAnswer};
 
-// The answer of `output_sources`: how many inputs are behind the slot.
+// The answer of `output_sources`: how many inputs are behind the slot. That of `all_sources`: how many slots there are.
 pub enum Sources {
     Listed(u32),
     Refused(Refusal),
@@ -37,7 +40,7 @@ fn check(plan: Plan, indices: &[u32], node_words: &[u32], steps: &[u32]) -> Answ
     plan::check(plan, short, indices, node_words, steps)
 }
 
-// The inputs behind one slot, ascending, at the front of `list`. The Rust hands out the lists of all slots at once.
+// The inputs behind one slot, ascending, at the front of `list`.
 pub fn output_sources(
     plan: Plan,
     slot: u32,
@@ -53,16 +56,45 @@ pub fn output_sources(
         return Sources::Refused(r);
     }
     let words = plan.words;
-    if !has_slot(&steps[..words], plan.steps, slot) {
+    let mut slots = [0u64; SLOT_WORDS];
+    let n = behind(plan, indices, &steps[..words], &mut slots);
+    if n <= slot as usize {
         return Sources::Refused(Refusal::of(Refusal::NO_SLOT));
     }
-    let set = behind(plan, slot, indices, &steps[..words]);
+    let set = load(&slots, slot);
     let count = set.count();
     if list.len() < count as usize {
         return Sources::Refused(Refusal::of(Refusal::SHORT_AREA));
     }
     set.list(list);
     Sources::Listed(count)
+}
+
+// The inputs behind every slot s: how many at place s of `counts`, and which, ascending, from place 256 * s of `lists` on. One walk of the steps, as
+// in the Rust.
+pub fn all_sources(
+    plan: Plan,
+    indices: &[u32],
+    node_words: &[u32],
+    steps: &[u32],
+    counts: &mut [u32],
+    lists: &mut [u16],
+) -> Sources
+    ensures answer { λ r. ⌜ r ≡ allAnswer plan (now (indices .entry)) (now («node_words» .entry)) (now (steps .entry)) (length (now (counts .entry))) (length (now (lists .entry))) ⌝ }
+    ensures counts { λ _. ⌜ now (counts .exit) ≡ allCounts plan (now (indices .entry)) (now («node_words» .entry)) (now (steps .entry)) (now (counts .entry)) (length (now (lists .entry))) ⌝ }
+    ensures lists { λ _. ⌜ now (lists .exit) ≡ allLists plan (now (indices .entry)) (now («node_words» .entry)) (now (steps .entry)) (length (now (counts .entry))) (now (lists .entry)) ⌝ }
+{
+    if let Answer::Refused(refused) = check(plan, indices, node_words, steps) {
+        return Sources::Refused(refused);
+    }
+    let words = plan.words;
+    let mut sets = [0u64; SLOT_WORDS];
+    let n = behind(plan, indices, &steps[..words], &mut sets);
+    if (counts.len() < n) | (lists.len() < n * LIST_PLACES) {
+        return Sources::Refused(Refusal::of(Refusal::SHORT_AREA));
+    }
+    hand_out(&sets, n, counts, lists);
+    Sources::Listed(n as u32)
 }
 
 // Whether a plan is clean, as document 01 has it.

@@ -1,44 +1,45 @@
-// The slots that a plan names.
-use plan::Read;
+// The slots of a plan: how many there are, and the areas that the lists of all go to.
+use crate::buffer_sets::load;
 use plan::Step;
 ghost use mathlib.Core.Path.{_≡_};
-ghost use mathlib.Core.List.{List, map};
-ghost use Prim.Native.Nat.{ℕ};
-ghost use lib.Dec.{ltb};
-ghost use lib.Ieee.{Float};
-ghost use Rattle.plan.specs.Words.{decoded};
-ghost use Rattle.plan.specs.Resolved.{resolved};
-ghost use Rattle.trace.specs.Sources.{slotCount};
-ghost use Rattle.trace.specs.Loops.{names};
+ghost use Prim.Native.Nat.{_*_, _≤_};
+ghost use lib.ListN.{length};
+ghost use Rattle.plan.specs.Limits.{inputs, slots};
+ghost use Rattle.trace.specs.Calls.{countsOf, listsOf};
+ghost use Rattle.trace.specs.Loops.{slotWords, listAt, withSlot};
 
-// A step is an Output to the slot or to a higher one.
-fn names(step: Step, slot: u32) -> bool
-    ensures { λ r. ⌜ r ≡ names slot step ⌝ }
+// Four words for each slot.
+pub(crate) const SLOT_WORDS: usize = Step::SLOTS as usize * 4;
+
+// The places that `all_sources` has for each slot's list.
+pub(crate) const LIST_PLACES: usize = Step::INPUTS as usize;
+
+// The count of slots, where a step comes to those before it.
+pub(crate) fn with_slot(count: usize, step: Step) -> usize
+    ensures { λ r. ⌜ r ≡ withSlot count step ⌝ }
 {
-    match step {
-        Step::Output {
-            src: _,
-            slot: named,
-        } => named >= slot,
-        _ => false,
+    let Step::Output { src: _, slot } = step else {
+        return count;
+    };
+    let named = slot as usize;
+    if named < count {
+        return count;
     }
+    named + 1
 }
 
-// One of n steps is.
-pub(crate) fn has_slot(words: &[u32], n: usize, slot: u32) -> bool
-    ensures { λ r. ⌜ ((indices : List ℕ) (xs : List Float) → r ≡ ltb slot (slotCount (map (resolved indices xs) (decoded (now (words .entry)) n)))) ⌝ }
+// The count and the list of each of the first n slots, from their sets. Requires at most as many as a plan can have, the words of all, and
+// room in both areas.
+pub(crate) fn hand_out(area: &[u64], n: usize, counts: &mut [u32], lists: &mut [u16])
+    requires { ⌜ (n ≤ slots) × (length (now area) ≡ slotWords) × (n ≤ length (now counts)) × (n * inputs ≤ length (now lists)) ⌝ }
+    ensures { λ _. ⌜ (now (counts .exit) ≡ countsOf (listAt (now (area .entry))) n (now (counts .entry))) × (now (lists .exit) ≡ listsOf (listAt (now (area .entry))) n (now (lists .entry))) ⌝ }
 {
-    let mut at = 0;
-    let mut i = 0;
-    while i < n {
-        let Read::Found(step, next) = plan::read_step(words, at) else {
-            return false;
-        };
-        if names(step, slot) {
-            return true;
-        }
-        at = next;
-        i += 1;
+    let mut s = 0;
+    while s < n {
+        let set = load(area, s as u32);
+        let at = s * LIST_PLACES;
+        counts[s] = set.count();
+        set.list(&mut lists[at..]);
+        s += 1;
     }
-    false
 }

@@ -1,8 +1,10 @@
-// The walk of a plan's steps: the inputs behind each buffer, and behind one slot.
+// The walk of a plan's steps: the inputs behind each buffer, and behind each slot.
 use crate::buffer_sets::add;
 use crate::buffer_sets::give;
+use crate::buffer_sets::load;
 use crate::buffer_sets::store;
 use crate::buffer_sets::union_of;
+use crate::slots::with_slot;
 use plan::Plan;
 use plan::Read;
 use plan::Span;
@@ -20,8 +22,8 @@ ghost use Rattle.plan.specs.Words.{decoded};
 ghost use Rattle.plan.specs.Check.{named};
 ghost use Rattle.plan.specs.Sound.{Within, IndexList};
 ghost use Rattle.plan.specs.Resolved.{resolved};
-ghost use Rattle.trace.specs.Sources.{noSources, union, spread, joins, behind};
-ghost use Rattle.trace.specs.Loops.{areaWords, sourcesOf, changed, Tested, Fit, Spans};
+ghost use Rattle.trace.specs.Sources.{noSources, union, spread, joins, behind, slotCount};
+ghost use Rattle.trace.specs.Loops.{areaWords, slotWords, sourcesOf, changed, Tested, Fit, Spans};
 
 // Four words for each buffer.
 const AREA_WORDS: usize = Plan::MAX_BUFFERS * 4;
@@ -92,45 +94,48 @@ fn spread(plan: Plan, indices: &[u32], area: &mut [u64], step: Step)
     }
 }
 
-// The inputs behind a slot, with those that a step joins to it. Requires as `spread`.
-fn join(plan: Plan, indices: &[u32], area: &[u64], slot: u32, set: Set, step: Step) -> Set
-    requires { ⌜ Fit plan (now indices) (now area) step ⌝ }
-    ensures { λ r. ⌜ ((i : ℕ) → member r i ≡ (member set i || joins slot (sourcesOf (now (area .entry))) (resolved (now (indices .entry)) [] step) i)) ⌝ }
+// The sets of the slots, with the inputs that a step joins to one. Requires as `spread`, and the words of all slots.
+fn join(plan: Plan, indices: &[u32], area: &[u64], slots: &mut [u64], step: Step)
+    requires { ⌜ Fit plan (now indices) (now area) step × (length (now slots) ≡ slotWords) ⌝ }
+    ensures { λ _. ⌜ ((s i : ℕ) → sourcesOf (now (slots .exit)) s i ≡ (sourcesOf (now (slots .entry)) s i || joins s (sourcesOf (now (area .entry))) (resolved (now (indices .entry)) [] step) i)) ⌝ }
 {
-    let Step::Output { src, slot: joined } = step else {
-        return set;
+    let Step::Output { src, slot } = step else {
+        return;
     };
-    if joined != slot {
-        return set;
-    }
-    set.union(behind_span(plan, indices, area, src))
+    let own = load(&slots[..], slot);
+    let set = own.union(behind_span(plan, indices, area, src));
+    store(slots, slot, set);
 }
 
-// The inputs behind a slot after all steps, from the sets that the area holds, which change step by step. Requires what the tests said of the
-// plan and its steps, and the words of all buffers.
-fn walk(plan: Plan, slot: u32, indices: &[u32], steps: &[u32], area: &mut [u64]) -> Set
-    requires { ⌜ Tested plan (now indices) (now steps) × (length (now area) ≡ areaWords) ⌝ }
-    ensures { λ r. ⌜ ((i : ℕ) → member r i ≡ behind slot (sourcesOf (now (area .entry))) (map (resolved (now (indices .entry)) []) (decoded (now (steps .entry)) (plan .steps))) i) ⌝ }
+// The sets of the slots after all steps, from those that both areas hold, which change step by step; and the count of the slots. Requires what
+// the tests said of the plan and its steps, and the words of all buffers and of all slots.
+fn walk(plan: Plan, indices: &[u32], steps: &[u32], area: &mut [u64], slots: &mut [u64]) -> usize
+    requires { ⌜ Tested plan (now indices) (now steps) × (length (now area) ≡ areaWords) × (length (now slots) ≡ slotWords) ⌝ }
+    ensures count { λ r. ⌜ r ≡ slotCount (map (resolved (now (indices .entry)) []) (decoded (now (steps .entry)) (plan .steps))) ⌝ }
+    ensures sets { λ _. ⌜ ((s i : ℕ) → sourcesOf (now (slots .exit)) s i ≡ (sourcesOf (now (slots .entry)) s i || behind s (sourcesOf (now (area .entry))) (map (resolved (now (indices .entry)) []) (decoded (now (steps .entry)) (plan .steps))) i)) ⌝ }
 {
     let n = plan.steps;
-    let mut set = Set::empty();
+    let mut count = 0;
     let mut at = 0;
     for i in 0..n {
         let Read::Found(step, next) = plan::read_step(steps, at) else {
-            return set;
+            return count;
         };
-        set = join(plan, indices, &area[..], slot, set, step);
+        join(plan, indices, &area[..], slots, step);
         spread(plan, indices, area, step);
+        count = with_slot(count, step);
         at = next;
     }
-    set
+    count
 }
 
-// The inputs behind a slot. Requires what the tests said of the plan and its steps.
-pub(crate) fn behind(plan: Plan, slot: u32, indices: &[u32], steps: &[u32]) -> Set
-    requires { ⌜ Tested plan (now indices) (now steps) ⌝ }
-    ensures { λ r. ⌜ ((i : ℕ) → member r i ≡ behind slot noSources (map (resolved (now (indices .entry)) []) (decoded (now (steps .entry)) (plan .steps))) i) ⌝ }
+// The inputs behind each slot, added to its set, and the count of the slots. Requires what the tests said of the plan and its steps, and the
+// words of all slots.
+pub(crate) fn behind(plan: Plan, indices: &[u32], steps: &[u32], slots: &mut [u64]) -> usize
+    requires { ⌜ Tested plan (now indices) (now steps) × (length (now slots) ≡ slotWords) ⌝ }
+    ensures count { λ r. ⌜ r ≡ slotCount (map (resolved (now (indices .entry)) []) (decoded (now (steps .entry)) (plan .steps))) ⌝ }
+    ensures sets { λ _. ⌜ ((s i : ℕ) → sourcesOf (now (slots .exit)) s i ≡ (sourcesOf (now (slots .entry)) s i || behind s noSources (map (resolved (now (indices .entry)) []) (decoded (now (steps .entry)) (plan .steps))) i)) ⌝ }
 {
     let mut area = [0u64; AREA_WORDS];
-    walk(plan, slot, indices, steps, &mut area)
+    walk(plan, indices, steps, &mut area, slots)
 }

@@ -1,6 +1,7 @@
 -- `trace::buffer_sets::give` meets its contract. Assumes nothing.
 use mathlib.Core.Path.{_∙_}
 use Prim.Native.Nat.{_-_}
+use native.Mathlib.Omega.{arith}
 use lib.ListN.{length}
 use borrow.Author.Needs.{needs}
 use Rattle.plan.proofs.Plans.{some-none}
@@ -28,7 +29,7 @@ store-requires : tie.Need-store-requires Inv-loop μ-loop
 store-requires c κs =
     let l = c .before .before .before in
     let s = l .before .before .before in
-    (some-none 256 (s .args .dst .now) .0 (s .pre .0) (l .loop .k) (c .before .before .loop-test .taken), l .loop .inv .kept ∙ s .pre .1)
+    omega (arith, some-none 256 (s .args .dst .now) .0 (s .pre .0) (l .loop .k) (c .before .before .loop-test .taken), l .loop .inv .kept ∙ s .pre .1)
 
 add-k : tie.Need-add-k Inv-loop μ-loop
 add-k c = search needs

@@ -46,7 +46,7 @@ same-length : tie.Need-same-length
 same-length c = search needs
 
 returns : tie.Need-returns
-returns c = let a = c .args in stored-sources (a .area .now) (a .b) (a .set) (c .pre .0) (c .pre .1)
+returns c = let a = c .args in stored-sources (a .area .now) (a .b) (a .set) (c .pre)
 
 pub store-spec : {M : Type 1} → statement M
 store-spec =

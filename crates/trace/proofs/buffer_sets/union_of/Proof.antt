@@ -34,7 +34,7 @@ shared-slice-read-load c = search needs
 load-requires : tie.Need-load-requires Inv-loop μ-loop
 load-requires c κs =
     let s = c .before .before .before .before .before .before in
-    (some-none 256 (s .args .src .now) .0 (s .pre .0) (c .before .before .loop .k) (c .before .loop-test .taken), s .pre .1)
+    omega (arith, some-none 256 (s .args .src .now) .0 (s .pre .0) (c .before .before .loop .k) (c .before .loop-test .taken), s .pre .1)
 
 union-requires : tie.Need-union-requires Inv-loop μ-loop
 union-requires c κs = search needs
