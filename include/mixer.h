@@ -231,6 +231,13 @@ mixer_count_reply mixer_output_sources(mixer_plan plan, uint32_t slot, const uin
                                        const uint32_t *node_words, size_t node_words_len, const uint32_t *steps, size_t steps_len,
                                        uint16_t *list, size_t list_len);
 
+/* The inputs behind every slot at once: how many at the slot's place of `counts`, and the inputs, ascending, to `lists` from slot * 256 on. What
+ * lies behind a slot's inputs stays as it is. The count is that of the slots, 0 where the plan has no Output. Refused: as the plan check, then 2,
+ * where `counts` has fewer places than there are slots, or `lists` fewer than 256 for each. */
+mixer_count_reply mixer_all_sources(mixer_plan plan, const uint32_t *indices, size_t indices_len, const uint32_t *node_words,
+                                    size_t node_words_len, const uint32_t *steps, size_t steps_len, uint32_t *counts, size_t counts_len,
+                                    uint16_t *lists, size_t lists_len);
+
 /* Whether the plan is clean: no Gain has a dst longer than its src, and each buffer in a step's src, or a Send's dst, was earlier a dst of a
  * Patch, Clear, Gain or Matrix. The list behind a slot of a clean plan leaves no input out. Refused: as the plan check. */
 mixer_clean_reply mixer_clean_answer(mixer_plan plan, const uint32_t *indices, size_t indices_len, const uint32_t *node_words,

@@ -104,13 +104,25 @@ static void used(mixer_plan p)
 
 static void traced(mixer_plan p)
 {
+    static uint16_t lists[513];
     uint16_t list[2] = {7, 7};
+    uint32_t counts[3] = {7, 7, 7};
     mixer_count_reply r = mixer_output_sources(p, 1, indices, 8, node_words, 6, steps, 32, list, 2);
     mixer_clean_reply c = mixer_clean_answer(p, indices, 8, node_words, 6, steps, 32);
     ACCEPTED(r.status);
     CHECK(r.count == 1 && list[0] == 255 && list[1] == 7);
     REFUSED(mixer_output_sources(p, 2, indices, 8, node_words, 6, steps, 32, list, 2).status, MIXER_NO_SLOT, 0);
     REFUSED(mixer_output_sources(p, 1, indices, 8, node_words, 6, steps, 32, list, 0).status, MIXER_SHORT_AREA, 0);
+    lists[0] = lists[257] = lists[512] = 7;
+    r = mixer_all_sources(p, indices, 8, node_words, 6, steps, 32, counts, 2, lists, 511);
+    REFUSED(r.status, MIXER_SHORT_AREA, 0);
+    CHECK(r.count == 0 && counts[0] == 7 && counts[1] == 7 && lists[256] == 0);
+    REFUSED(mixer_all_sources(p, indices, 8, node_words, 6, steps, 32, counts, 1, lists, 513).status, MIXER_SHORT_AREA, 0);
+    REFUSED(mixer_all_sources(p, indices, 2, node_words, 6, steps, 32, counts, 3, lists, 513).status, MIXER_SHORT_AREA, 0);
+    r = mixer_all_sources(p, indices, 8, node_words, 6, steps, 32, counts, 3, lists, 513);
+    ACCEPTED(r.status);
+    CHECK(r.count == 2 && counts[0] == 0 && counts[1] == 1 && counts[2] == 7);
+    CHECK(lists[0] == 7 && lists[256] == 255 && lists[257] == 7 && lists[512] == 7);
     ACCEPTED(c.status);
     CHECK(!c.clean);
     steps[9] = 1;

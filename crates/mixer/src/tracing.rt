@@ -6,7 +6,7 @@ use crate::replies::sources_reply;
 use plan::Plan;
 ghost use mathlib.Core.Path.{_≡_};
 ghost use lib.ListN.{length};
-ghost use Rattle.trace.specs.Calls.{sourcesAnswer, sourcesArea, cleanAnswer};
+ghost use Rattle.trace.specs.Calls.{sourcesAnswer, sourcesArea, allAnswer, allCounts, allLists, cleanAnswer};
 ghost use Rattle.mixer.specs.Replies.{sourcesReply, cleanReply};
 
 #[no_mangle]
@@ -22,6 +22,22 @@ pub extern "C" fn mixer_output_sources(
     ensures list { λ _. ⌜ now (list .exit) ≡ sourcesArea plan slot (now (indices .entry)) (now («node_words» .entry)) (now (steps .entry)) (now (list .entry)) ⌝ }
 {
     sources_reply(trace::output_sources(plan, slot, indices, node_words, steps, list))
+}
+
+#[no_mangle]
+pub extern "C" fn mixer_all_sources(
+    plan: Plan,
+    indices: &[u32],
+    node_words: &[u32],
+    steps: &[u32],
+    counts: &mut [u32],
+    lists: &mut [u16],
+) -> CountReply
+    ensures reply { λ r. ⌜ r ≡ sourcesReply (allAnswer plan (now (indices .entry)) (now («node_words» .entry)) (now (steps .entry)) (length (now (counts .entry))) (length (now (lists .entry)))) ⌝ }
+    ensures counts { λ _. ⌜ now (counts .exit) ≡ allCounts plan (now (indices .entry)) (now («node_words» .entry)) (now (steps .entry)) (now (counts .entry)) (length (now (lists .entry))) ⌝ }
+    ensures lists { λ _. ⌜ now (lists .exit) ≡ allLists plan (now (indices .entry)) (now («node_words» .entry)) (now (steps .entry)) (length (now (counts .entry))) (now (lists .entry)) ⌝ }
+{
+    sources_reply(trace::all_sources(plan, indices, node_words, steps, counts, lists))
 }
 
 #[no_mangle]
