@@ -106,7 +106,7 @@ fn balance(j: &mut Judge, r: &mut Rng, b: f64) -> Found {
 }
 
 /// Levels at the ends of the reference's ranges and between them.
-fn law(r: &mut Rng) -> Laws {
+pub fn law(r: &mut Rng) -> Laws {
     let mut level = |most: f64| {
         let any = -40.0 + (most + 40.0) * r.unit64();
         Db(r.pick(&[f64::NEG_INFINITY, -3.0, most, -40.0, any, any, any]))
@@ -167,18 +167,25 @@ fn refusal(j: &mut Judge, call: &str, number: u32, port: Status) -> Found {
     j.refusal(call, Status { number, place: 0 }, port)
 }
 
+/// The channels of a format; 1 where there is none.
+pub fn channels(format: u32) -> usize {
+    FORMATS.get(format as usize).map_or(1, |f| f.channels())
+}
+
+/// Number 17: a gain is not from +0 to 16.
+pub fn out_of_range(g: &FoldGains) -> bool {
+    let gains = [g.pan_left, g.pan_right, g.mono_sum, g.centre, g.surround, g.lfe];
+    gains.iter().any(|g| !(g.is_sign_positive() && (0.0..=16.0).contains(g)))
+}
+
 /// 16, 17 and 2 in this order: each with the later ones as well or without.
 fn refused(j: &mut Judge, r: &mut Rng) -> Found {
     for _ in 0..20 {
         let format = |r: &mut Rng| r.pick(&[0, 3, 6, 7, 8, u32::MAX]);
         let (src, dst, b, w) = (format(r), format(r), numbers::any_balance(r), numbers::any_width(r));
         let (gains, short) = (numbers::any_gains(r), r.percent(50) as usize);
-        let channels = |f: u32| FORMATS.get(f as usize).map_or(1, |f| f.channels());
-        let out = [gains.pan_left, gains.pan_right, gains.mono_sum, gains.centre, gains.surround, gains.lfe]
-            .iter()
-            .any(|g| !(g.is_sign_positive() && (0.0..=16.0).contains(g)));
         let number = |format: bool, range: bool| [(format, 16), (range, 17), (short == 1, 2)].iter().find(|t| t.0).map(|t| t.1);
-        if let Some(n) = number(src > 6 || dst > 6, out) {
+        if let Some(n) = number(src > 6 || dst > 6, out_of_range(&gains)) {
             let mut area = vec![7.5; channels(src) * channels(dst) - short];
             refusal(j, "width_matrix", n, mixer::width_matrix(src, dst, gains, r.percent(50), &mut area))?;
             untouched("matrix after a refusal", &vec![7.5; area.len()], &area)?;

@@ -1,4 +1,5 @@
 //! Compares the port with the reference in one process, call by call. ../README.md says what is compared.
+mod branches;
 mod building;
 mod clean;
 mod damaged;
@@ -20,6 +21,10 @@ mod plan;
 mod plans;
 mod planted;
 mod races;
+mod record;
+mod recorded;
+mod recorded_folds;
+mod recorded_refusals;
 mod refused;
 mod rng;
 mod rust;
@@ -28,6 +33,7 @@ mod signals;
 mod speed;
 mod stopwatch;
 mod strays;
+mod tape;
 mod twin;
 
 use judge::{Counts, Found, Judge};
@@ -36,6 +42,7 @@ const USAGE: &str = "oracle plans SEED COUNT     COUNT random plans, the first o
 oracle damaged SEED COUNT   COUNT good plans, each damaged at every place in turn
 oracle folds SEED COUNT     formats, balances, folds and roundings, COUNT times
 oracle pairs SEED COUNT     COUNT clean plans, each built twice, and two lists of calls for each slot, alike as demand 3 has it
+oracle record FILE          writes a sample of the reference's answers, for the program `replay`
 oracle show SEED            the layout of a plan
 oracle faults               plants each fault and looks whether it is found
 oracle speed [ROUNDS] [WORD...]         times of both sides, of the lines that have every word
@@ -98,6 +105,7 @@ pub fn main() {
         (Some("damaged"), Some(seed), Some(count)) => cases(seed, count, damaged::case),
         (Some("folds"), Some(seed), Some(count)) => cases(seed, count, folds::case),
         (Some("pairs"), Some(seed), Some(count)) => cases(seed, count, pairs::case),
+        (Some("record"), _, None) if args.len() == 2 => record::write(&args[1]),
         (Some("show"), Some(seed), None) => Ok(format!("{:#?}", layouts::Gen::new(seed).layout(None))),
         (Some("faults"), None, None) if args.len() == 1 => faults::all(),
         (Some("speed"), _, _) => speed::table(&args[1..]),

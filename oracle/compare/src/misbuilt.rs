@@ -45,15 +45,15 @@ pub fn step(p: &Plan, record: &[u32], area: usize) -> Answer<()> {
     test(many > VALUES as u64, 7)
 }
 
-fn finish(p: &Plan, area: usize) -> Answer<()> {
+pub fn finish(p: &Plan, area: usize) -> Answer<()> {
     test(p.block < 1 || p.block > paper::MAX_BLOCK, 1)?;
     test(p.buffers > paper::MAX_BUFFERS, 5)?;
     test(p.buffers * p.block > area, 2)
 }
 
 /// A record with a count spoilt, and areas one entry short, now and then.
-fn spoilt(g: &mut Gen, twin: &Twin) -> Areas {
-    let mut a = twin.port.clone();
+pub fn spoilt(g: &mut Gen, areas: &Areas) -> Areas {
+    let mut a = areas.clone();
     let p = &mut a.plan;
     let r = &mut g.r;
     match r.below(9) {
@@ -71,7 +71,7 @@ fn spoilt(g: &mut Gen, twin: &Twin) -> Areas {
 
 /// One refused builder call; none where document 01 accepts what came out.
 pub fn one(j: &mut Judge, g: &mut Gen, twin: &Twin) -> Found {
-    let mut a = spoilt(g, twin);
+    let mut a = spoilt(g, &twin.port);
     let before = a.clone();
     let p = a.plan;
     match g.r.below(7) {

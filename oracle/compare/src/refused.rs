@@ -54,7 +54,7 @@ pub fn spoil(r: &mut Rng, a: &mut Areas) {
 }
 
 /// An id that another node has, or a len or left above its limit.
-fn spoil_node(r: &mut Rng, a: &mut Areas) {
+pub fn spoil_node(r: &mut Rng, a: &mut Areas) {
     let nodes = a.plan.nodes.min(a.words.len() / WORDS);
     if nodes == 0 {
         return;

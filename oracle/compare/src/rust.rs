@@ -56,6 +56,10 @@ pub fn adopt(new: &mut Plan, old: &mut Plan, pairs: &[u32], ramp: u32) {
     new.adopt(old, ramp);
 }
 
+pub fn len_of(n: &reference::engine::plan::Node) -> u32 {
+    peek::node(n).len
+}
+
 /// Writes the nodes to the front of node areas, as document 01 lays them out.
 pub fn nodes_to(nodes: &[reference::engine::plan::Node], floats: &mut [f32], words: &mut [u32]) {
     for ((n, f), w) in nodes.iter().zip(floats.chunks_exact_mut(FLOATS)).zip(words.chunks_exact_mut(WORDS)) {

@@ -1,0 +1,270 @@
+//! What the file of `oracle record` must reach. Each name here was counted by a case, or the file is not written.
+use crate::ops::{Input, Setting};
+use crate::paper;
+use crate::plan::{Areas, Layout, Step, FLOATS, VALUES, WORDS};
+use crate::rust;
+use crate::tape::Kind::{self, *};
+
+/// The numbers that each call can refuse with.
+pub const REFUSALS: &[(Kind, &[u32])] = &[
+    (New, &[1]),
+    (Buffers, &[5, 2]),
+    (Buffer, &[2]),
+    (Coefficients, &[5, 2]),
+    (Node, &[5, 2, 7, 8, 10]),
+    (Kind::Step, &[5, 2, 3, 7]),
+    (Finish, &[1, 5, 2]),
+    (CheckPlan, &[1, 5, 2, 4, 8, 3, 7, 6]),
+    (SetParam, &[5, 2, 14, 8, 10, 9]),
+    (Process, &[1, 5, 2, 4, 8, 3, 7, 6, 14, 12, 13]),
+    (OutputSources, &[1, 5, 2, 4, 8, 3, 7, 6, 15]),
+    (CleanAnswer, &[1, 5, 2, 4, 8, 3, 7, 6]),
+    (Adopt, &[5, 2, 11, 14, 10]),
+    (BalanceGains, &[17]),
+    (BalanceOf, &[16, 17, 2]),
+    (StereoMatrix, &[17]),
+    (WidthMatrix, &[16, 17, 2]),
+];
+
+/// What plans, runs, settings, adoptions and lists must show.
+pub const BRANCHES: &[&str] = &[
+    "Patch, no entry",
+    "Patch, a part shorter than the block",
+    "Patch, a part as long as the block",
+    "Patch, a part longer than the block",
+    "Patch, two entries for the channel",
+    "Gain at rest",
+    "Gain ramping",
+    "Gain, the ramp ends in the block",
+    "Gain, the ramp ends with the block",
+    "Gain, dst longer than src",
+    "Gain, src longer than dst",
+    "Gain of no channels",
+    "Gain, node shorter than the channels",
+    "Matrix at rest",
+    "Matrix at rest, a gain of 0",
+    "Matrix at rest, a gain of -0",
+    "Matrix ramping",
+    "Matrix, the ramp ends in the block",
+    "Matrix, the ramp ends with the block",
+    "Matrix without columns",
+    "Matrix without rows",
+    "Matrix, node shorter than its entries",
+    "Matrix, one buffer twice in dst",
+    "Send at rest",
+    "Send at rest at 0",
+    "Send at rest at -0",
+    "Send ramping",
+    "Send, the ramp ends in the block",
+    "Send, the ramp ends with the block",
+    "Send, a weight of 0",
+    "Send, a weight of -0",
+    "Send of nothing",
+    "Send, more weights than it needs",
+    "Clear",
+    "Clear of nothing",
+    "Output",
+    "Output of no channels",
+    "two Outputs",
+    "a node that two steps use while it ramps",
+    "a plan without steps",
+    "NaN out",
+    "infinity out",
+    "-0 out",
+    "subnormal out",
+    "an index list that is not the builder's",
+    "an output area longer than needed",
+    "a block of 1 sample",
+    "a block of more than 16 samples",
+    "set at once",
+    "set with a ramp that ends in the block",
+    "set with a ramp as long as the block",
+    "set with a ramp over blocks",
+    "set, fewer values than the node has",
+    "set, more values than the node has",
+    "set, no values",
+    "set while the node ramps",
+    "a list of no inputs",
+    "a list of one input",
+    "a list of several inputs",
+    "a list for a slot that no Output names",
+    "a list with an input above 191",
+    "a clean plan",
+    "a plan that is not clean",
+    "an adopted node",
+    "adoption, a new node out of range",
+    "adoption, an old node out of range",
+    "adoption, other lens",
+    "adoption at once",
+    "adoption with a ramp",
+];
+
+/// The name of a node's state before a step's block.
+fn moving(names: [&'static str; 4], left: u32, block: usize) -> &'static str {
+    match left as usize {
+        0 => names[0],
+        n if n < block => names[2],
+        n if n == block => names[3],
+        _ => names[1],
+    }
+}
+
+const GAIN: [&str; 4] = ["Gain at rest", "Gain ramping", "Gain, the ramp ends in the block", "Gain, the ramp ends with the block"];
+const MATRIX: [&str; 4] =
+    ["Matrix at rest", "Matrix ramping", "Matrix, the ramp ends in the block", "Matrix, the ramp ends with the block"];
+const SEND: [&str; 4] = ["Send at rest", "Send ramping", "Send, the ramp ends in the block", "Send, the ramp ends with the block"];
+
+/// A zero with its sign.
+fn zero(x: f32, plus: &'static str, minus: &'static str) -> Option<&'static str> {
+    (x == 0.0).then_some(if x.is_sign_positive() { plus } else { minus })
+}
+
+/// The nodes of a run, as its steps find them.
+struct Nodes<'a> {
+    areas: &'a Areas,
+    left: Vec<u32>,
+    ramped: Vec<bool>,
+    block: usize,
+    seen: Vec<&'static str>,
+}
+
+impl Nodes<'_> {
+    /// A step ends the node's block.
+    fn uses(&mut self, node: u32, names: [&'static str; 4]) {
+        let n = node as usize;
+        self.seen.push(moving(names, self.left[n], self.block));
+        if self.left[n] > 0 && self.ramped[n] {
+            self.seen.push("a node that two steps use while it ramps");
+        }
+        self.ramped[n] |= self.left[n] > 0;
+        self.left[n] = self.left[n].saturating_sub(self.block as u32);
+    }
+
+    fn rests(&self, node: u32) -> bool {
+        self.left[node as usize] == 0
+    }
+
+    fn target(&self, node: u32) -> &[f32] {
+        &self.areas.floats[FLOATS * node as usize + VALUES..][..VALUES]
+    }
+
+    fn len(&self, node: u32) -> u32 {
+        self.areas.words[WORDS * node as usize + 1]
+    }
+
+    fn when(&mut self, holds: bool, name: &'static str) {
+        if holds {
+            self.seen.push(name);
+        }
+    }
+
+    fn patch(&mut self, input: &Input, asked: [u32; 2]) {
+        let entries = input.directory.chunks(4).filter(|e| e[..2] == asked).count();
+        let part = paper::lookup(&input.directory, &input.samples, asked[0], asked[1]).len();
+        self.when(entries == 0, "Patch, no entry");
+        self.when(entries > 0 && part < self.block, "Patch, a part shorter than the block");
+        self.when(part == self.block, "Patch, a part as long as the block");
+        self.when(part > self.block, "Patch, a part longer than the block");
+        self.when(entries > 1, "Patch, two entries for the channel");
+    }
+
+    fn step(&mut self, l: &Layout, s: &Step, input: &Input) {
+        match *s {
+            Step::Patch { input: i, channel, .. } => self.patch(input, [i, channel]),
+            Step::Gain { node, src, dst } => {
+                self.when(dst.len > src.len, "Gain, dst longer than src");
+                self.when(src.len > dst.len, "Gain, src longer than dst");
+                self.when(src.len.min(dst.len) == 0, "Gain of no channels");
+                self.when(self.len(node) < src.len.min(dst.len), "Gain, node shorter than the channels");
+                self.uses(node, GAIN);
+            }
+            Step::Matrix { node, src, dst } => {
+                let to = &l.index[dst.start as usize..][..dst.len as usize];
+                self.when(src.len == 0 && dst.len > 0, "Matrix without columns");
+                self.when(dst.len == 0 && src.len > 0, "Matrix without rows");
+                self.when(self.len(node) < src.len * dst.len, "Matrix, node shorter than its entries");
+                self.when((1..to.len()).any(|i| to[..i].contains(&to[i])), "Matrix, one buffer twice in dst");
+                if self.rests(node) {
+                    let gains = self.target(node)[..(src.len * dst.len) as usize].to_vec();
+                    let zeros = gains.iter().filter_map(|g| zero(*g, "Matrix at rest, a gain of 0", "Matrix at rest, a gain of -0"));
+                    self.seen.extend(zeros);
+                }
+                self.uses(node, MATRIX);
+            }
+            Step::Clear { dst } => self.seen.push(if dst.len > 0 { "Clear" } else { "Clear of nothing" }),
+            Step::Send { node, src, dst, weights } => {
+                let need = src.len * dst.len;
+                let used = &l.coefficients[weights.start as usize..][..need as usize];
+                self.when(need == 0, "Send of nothing");
+                self.when(weights.len > need, "Send, more weights than it needs");
+                self.seen.extend(used.iter().filter_map(|w| zero(*w, "Send, a weight of 0", "Send, a weight of -0")));
+                if self.rests(node) {
+                    self.seen.extend(zero(self.target(node)[0], "Send at rest at 0", "Send at rest at -0"));
+                }
+                self.uses(node, SEND);
+            }
+            Step::Output { src, .. } => self.seen.push(if src.len > 0 { "Output" } else { "Output of no channels" }),
+        }
+    }
+}
+
+/// What a run reaches, from the areas before it and the samples that it appends.
+pub fn run(l: &Layout, a: &Areas, input: &Input, output: &[f32], more: usize) -> Vec<&'static str> {
+    let nodes = a.plan.nodes;
+    let left = (0..nodes).map(|i| a.words[WORDS * i + 2]).collect();
+    let mut n = Nodes { areas: a, left, ramped: vec![false; nodes], block: l.block, seen: Vec::new() };
+    l.steps.iter().for_each(|s| n.step(l, s, input));
+    let outputs = l.steps.iter().filter(|s| matches!(s, Step::Output { .. })).count();
+    n.when(outputs > 1, "two Outputs");
+    n.when(l.steps.is_empty(), "a plan without steps");
+    n.when(output.iter().any(|x| x.is_nan()), "NaN out");
+    n.when(output.iter().any(|x| x.is_infinite()), "infinity out");
+    n.when(output.iter().any(|x| x.to_bits() == 0x8000_0000), "-0 out");
+    n.when(output.iter().any(|x| x.is_subnormal()), "subnormal out");
+    n.when(l.own_index, "an index list that is not the builder's");
+    n.when(more > 0, "an output area longer than needed");
+    n.when(l.block == 1, "a block of 1 sample");
+    n.when(l.block > 16, "a block of more than 16 samples");
+    n.seen
+}
+
+/// What a setting of a node that there is reaches.
+pub fn setting(l: &Layout, a: &Areas, s: &Setting) -> Vec<&'static str> {
+    let names =
+        ["set at once", "set with a ramp over blocks", "set with a ramp that ends in the block", "set with a ramp as long as the block"];
+    let mut seen = vec![moving(names, s.ramp, l.block)];
+    let node = l.nodes.iter().position(|n| n.id == s.id).unwrap();
+    let (len, left) = (a.words[WORDS * node + 1] as usize, a.words[WORDS * node + 2]);
+    let when = [
+        (s.values.is_empty(), "set, no values"),
+        (s.values.len() < len && !s.values.is_empty(), "set, fewer values than the node has"),
+        (s.values.len() > len, "set, more values than the node has"),
+        (left > 0, "set while the node ramps"),
+    ];
+    seen.extend(when.iter().filter(|w| w.0).map(|w| w.1));
+    seen
+}
+
+/// What a source list reaches.
+pub fn list(l: &Layout, slot: u32, list: &[u16]) -> Vec<&'static str> {
+    let named = l.steps.iter().any(|s| matches!(s, Step::Output { slot: n, .. } if *n == slot));
+    let mut seen = vec![["a list of no inputs", "a list of one input", "a list of several inputs"][list.len().min(2)]];
+    seen.extend((!named).then_some("a list for a slot that no Output names"));
+    seen.extend(list.iter().any(|i| *i > 191).then_some("a list with an input above 191"));
+    seen
+}
+
+/// What an adoption reaches.
+pub fn adoption(new: &rust::Plan, old: &rust::Plan, pairs: &[u32], ramp: u32) -> Vec<&'static str> {
+    let mut seen = Vec::new();
+    for p in pairs.chunks_exact(2) {
+        seen.push(match (new.nodes.get(p[0] as usize), old.nodes.get(p[1] as usize)) {
+            (None, _) => "adoption, a new node out of range",
+            (_, None) => "adoption, an old node out of range",
+            (Some(n), Some(o)) if rust::len_of(n) == rust::len_of(o) => "an adopted node",
+            _ => "adoption, other lens",
+        });
+    }
+    seen.push(if ramp == 0 { "adoption at once" } else { "adoption with a ramp" });
+    seen
+}

@@ -1,0 +1,174 @@
+//! `oracle record FILE`: a sample of the reference's answers as a file, small enough to be kept with the port, whose program `replay` runs it.
+//! A case is taken where it reaches something that was not reached often enough yet, so that few cases reach everything on the lists of `branches.rs`.
+use crate::branches::{BRANCHES, REFUSALS};
+use crate::layouts::Gen;
+use crate::plan::Layout;
+use crate::recorded::{Case, Held};
+use crate::tape::{Kind, Tape, LONGEST};
+use crate::{recorded_folds, recorded_refusals};
+use std::collections::BTreeMap;
+
+/// Plans of seeds from 1 on are tried.
+const SEEDS: u64 = 20_000;
+/// How often each branch and each refusal of a call is to be reached.
+const TIMES: u32 = 5;
+/// How many plans have their builder calls recorded.
+const BUILDS: u32 = 12;
+
+const BLOCKS: [usize; 14] = [1, 1, 2, 3, 4, 5, 7, 8, 15, 16, 17, 24, 33, 40];
+
+#[derive(Default)]
+struct Recorder {
+    tape: Tape,
+    reached: BTreeMap<&'static str, u32>,
+    refused: BTreeMap<(Kind, u32), u32>,
+    kinds: BTreeMap<Kind, u32>,
+    builds: u32,
+    plans: u32,
+}
+
+/// A plan that costs little room, whose areas the program can lend.
+fn small(l: &Layout) -> bool {
+    let samples = l.buffers.max(l.output_channels()) * l.block;
+    samples <= 200 && l.nodes.len() <= 3 && l.steps.len() <= 14 && l.coefficients.len() <= 16 && l.index.len() <= 30
+}
+
+impl Recorder {
+    /// Takes the records of a case.
+    fn take(&mut self, c: &Case) {
+        for r in &c.records {
+            self.tape.push(r);
+            *self.kinds.entry(r.kind).or_default() += 1;
+            if r.status.number > 0 {
+                *self.refused.entry((r.kind, r.status.number)).or_default() += 1;
+            }
+        }
+        for name in &c.reached {
+            *self.reached.entry(name).or_default() += 1;
+        }
+    }
+
+    fn wanted(&self, c: &Case) -> bool {
+        c.reached.iter().any(|name| self.reached.get(name).map_or(true, |n| *n < TIMES))
+    }
+
+    /// Takes those of the records whose call has not been refused with their number often enough.
+    fn take_refused(&mut self, mut c: Case) {
+        c.records.retain(|r| r.areas.iter().all(|a| a.len() <= LONGEST));
+        for r in std::mem::take(&mut c.records) {
+            let number = r.status.number;
+            let times = if number == 0 { self.kinds.get(&r.kind) } else { self.refused.get(&(r.kind, number)) };
+            if times.map_or(true, |n| *n < TIMES) {
+                self.take(&Case { records: vec![r], reached: Vec::new() });
+            }
+        }
+    }
+
+    /// The case of a seed: a plan, built, traced, set and run, then one that adopts it, and calls that are refused.
+    fn plan(&mut self, seed: u64) {
+        let mut g = Gen::new(seed);
+        g.block = g.r.pick(&BLOCKS);
+        let Some((mut c, mut h)) = self.built(&mut g, None) else { return };
+        rounds(&mut c, &mut g, &mut h);
+        if g.r.percent(50) {
+            let Some((more, mut new)) = self.built(&mut g, Some(&h.layout)) else { return };
+            c.records.extend(more.records);
+            c.reached.extend(more.reached);
+            let (pairs, ramp) = (g.pairs(new.layout.nodes.len(), h.layout.nodes.len()), g.ramp());
+            c.adopt(&mut new, &mut h, &pairs, ramp);
+            rounds(&mut c, &mut g, &mut new);
+        }
+        let fits = |a: &Vec<u32>| a.len() <= LONGEST;
+        if self.wanted(&c) && c.records.iter().all(|r| r.areas.iter().all(fits)) {
+            self.plans += 1;
+            self.builds += 1;
+            self.take(&c);
+        }
+        let mut c = Case::default();
+        (0..6).for_each(|_| recorded_refusals::some(&mut c, &mut g, &h));
+        self.take_refused(c);
+    }
+
+    /// A plan and its trace; the builder calls only where there are not enough of them yet.
+    fn built(&self, g: &mut Gen, like: Option<&Layout>) -> Option<(Case, Held)> {
+        let layout = g.layout(like);
+        if !small(&layout) {
+            return None;
+        }
+        let mut c = Case::default();
+        let h = c.build(g, layout);
+        if self.builds >= BUILDS {
+            c.records.retain(|r| r.kind == Kind::CheckPlan);
+        }
+        c.trace(g, &h);
+        Some((c, h))
+    }
+
+    /// What was not reached.
+    fn missing(&self) -> Vec<String> {
+        let branches = BRANCHES.iter().filter(|name| !self.reached.contains_key(*name)).map(|name| name.to_string());
+        let all = REFUSALS.iter().flat_map(|(kind, numbers)| numbers.iter().map(move |n| (*kind, *n)));
+        let refusals = all.filter(|r| !self.refused.contains_key(r)).map(|(kind, n)| format!("{kind:?} refused {n}"));
+        branches.chain(refusals).collect()
+    }
+}
+
+/// Settings, nodes that somebody else wrote, and blocks.
+fn rounds(c: &mut Case, g: &mut Gen, h: &mut Held) {
+    for _ in 0..g.r.range(1, 3) {
+        for _ in 0..g.r.pick(&[0, 1, 1, 2]) {
+            let s = g.setting(&h.layout);
+            c.set(h, &s);
+        }
+        if g.r.percent(15) && !h.layout.nodes.is_empty() {
+            let p = g.node_poke(h.layout.nodes.len());
+            c.poke(h, &p);
+        }
+        let input = g.input_block(&h.layout);
+        c.run(h, &input, g.r.pick(&[0, 0, 1, 3]));
+        c.lookup(g, &input);
+    }
+}
+
+fn text(r: &Recorder) -> String {
+    format!(
+        "Answers of the Rust mixer (commit f575066b19) to calls of the plan engine and the folds, for the program `replay`.
+Made by `oracle record FILE` (oracle/README.md), which makes the same bytes each time; this file is not edited by hand.
+Plans are those of {} of the seeds 1 to {SEEDS}, taken where they reach a branch that fewer than {TIMES} cases had reached.
+Samples, nodes, buffers, lists and folds are the Rust's; refusals, the check and the clean answer, which it does not have, document 01's.
+
+After this text of 1,024 bytes: u32 words, the lowest byte first. Words 0 to 4: 5245504C (hexadecimal), version 1, words in all, records,
+the word at which the records start; before that the areas. A record: kind, length in words, refusal's number and place (0: accepted),
+how many areas, for each its start and length in words, then the numbers of its kind (crates/replay/src has each kind's).
+Floats are their bits, all NaN 7FC00000; f64 and counts are two words, the lower one first.
+",
+        r.plans
+    )
+}
+
+/// Writes the file, unless something was not reached.
+pub fn write(path: &str) -> Result<String, String> {
+    let mut r = Recorder::default();
+    for seed in 1..=SEEDS {
+        r.plan(seed);
+    }
+    let mut c = Case::default();
+    recorded_folds::all(&mut c, 1);
+    r.take(&c);
+    let mut c = Case::default();
+    recorded_folds::refusals(&mut c, 1);
+    r.take_refused(c);
+    let missing = r.missing();
+    if !missing.is_empty() {
+        return Err(format!("nothing written; not reached: {}", missing.join("; ")));
+    }
+    for (name, n) in &r.reached {
+        println!("{name}: {n}");
+    }
+    for ((kind, number), n) in &r.refused {
+        println!("{kind:?} refused {number}: {n}");
+    }
+    let bytes = r.tape.file(&text(&r));
+    std::fs::write(path, &bytes).map_err(|e| format!("{path}: {e}"))?;
+    Ok(format!("{} records of {} plans, {} bytes", r.tape.records, r.plans, bytes.len()))
+}

@@ -1,0 +1,226 @@
+//! Records of calls whose answers the reference gives: a plan is built, set, run, traced and adopted in it, and each call is written down.
+use crate::branches;
+use crate::layouts::Gen;
+use crate::mixer::{Plan, Status};
+use crate::ops::{Input, NodePoke, Setting};
+use crate::paper;
+use crate::plan::{Areas, Call, Layout, NodeCall, Step, FLOATS, WORDS};
+use crate::rust::{self, PlanBuilder};
+use crate::tape::{bits, plan, size, Kind, Record};
+use reference::engine::plan::peek;
+
+/// A plan in the reference, and the areas that a caller of the port would have.
+pub struct Held {
+    pub layout: Layout,
+    pub rust: rust::Plan,
+    pub areas: Areas,
+}
+
+/// The records of one case, and what they reach.
+#[derive(Default)]
+pub struct Case {
+    pub records: Vec<Record>,
+    pub reached: Vec<&'static str>,
+}
+
+impl Case {
+    pub fn push(&mut self, kind: Kind, status: Status, areas: Vec<Vec<u32>>, numbers: Vec<u32>) {
+        self.records.push(Record { kind, status, areas, numbers });
+    }
+
+    fn accepted(&mut self, kind: Kind, areas: Vec<Vec<u32>>, numbers: Vec<u32>) {
+        self.push(kind, Status::default(), areas, numbers);
+    }
+
+    /// Builds a layout.
+    pub fn build(&mut self, g: &mut Gen, layout: Layout) -> Held {
+        let mut a = Areas::for_layout(&layout, g.r.pick(&[0, 1, 3]));
+        let mut b = PlanBuilder::new(layout.block);
+        a.plan = Plan { block: layout.block, ..Plan::default() };
+        self.accepted(Kind::New, vec![plan(&a.plan)], size(layout.block).to_vec());
+        for call in &layout.calls {
+            match call {
+                Call::Buffers(n) => self.buffers(g, &mut b, &mut a, *n),
+                Call::Coefficients(values) => self.coefficients(&mut b, &mut a, values),
+                Call::Node(n) => self.node(&mut b, &mut a, n),
+                Call::Step(s) => self.step(&mut b, &mut a, s),
+            }
+        }
+        self.finish(b, a, layout)
+    }
+
+    fn buffers(&mut self, g: &mut Gen, b: &mut PlanBuilder, a: &mut Areas, n: usize) {
+        let (before, was) = (plan(&a.plan), a.indices.clone());
+        let span = b.buffers(n);
+        let list = peek::indices(b);
+        a.indices[..list.len()].copy_from_slice(list);
+        a.plan.indices = list.len();
+        a.plan.buffers = peek::buffer_count(b);
+        let made = rust::span_back(span);
+        let numbers = [&size(n)[..], &[made.start, made.len]].concat();
+        self.accepted(Kind::Buffers, vec![before, plan(&a.plan), was, a.indices.clone()], numbers);
+        let cut = g.r.below(n + 3);
+        let first = rust::span_back(b.first(span, cut));
+        self.accepted(Kind::First, vec![], vec![made.start, made.len, cut as u32, first.start, first.len]);
+        if n > 0 {
+            let i = g.r.below(n);
+            let numbers = [&[made.start, made.len][..], &size(i), &[b.buffer(span, i)]].concat();
+            self.accepted(Kind::Buffer, vec![plan(&a.plan), a.indices.clone()], numbers);
+        }
+    }
+
+    fn coefficients(&mut self, b: &mut PlanBuilder, a: &mut Areas, values: &[f32]) {
+        let (before, was) = (plan(&a.plan), bits(&a.coefficients));
+        let span = b.coefficients(values);
+        let list = peek::coefficients(b);
+        a.coefficients[..list.len()].copy_from_slice(list);
+        a.plan.coefficients = list.len();
+        let areas = vec![before, plan(&a.plan), bits(values), was, bits(&a.coefficients)];
+        self.accepted(Kind::Coefficients, areas, vec![span.start, span.len]);
+    }
+
+    fn node(&mut self, b: &mut PlanBuilder, a: &mut Areas, n: &NodeCall) {
+        let (before, floats, words) = (plan(&a.plan), bits(&a.floats), a.words.clone());
+        let number = b.node(n.id, &n.values, n.ramp);
+        rust::nodes_to(peek::nodes(b), &mut a.floats, &mut a.words);
+        a.plan.nodes = peek::nodes(b).len();
+        let areas = vec![before, plan(&a.plan), bits(&n.values), floats, words, bits(&a.floats), a.words.clone()];
+        self.accepted(Kind::Node, areas, vec![n.id, n.ramp, number]);
+    }
+
+    fn step(&mut self, b: &mut PlanBuilder, a: &mut Areas, s: &Step) {
+        let (before, was, record) = (plan(&a.plan), a.steps.clone(), s.record());
+        b.step(rust::step(s));
+        let at = a.plan.words;
+        a.steps[at..][..record.len()].copy_from_slice(&record);
+        a.plan.words += record.len();
+        a.plan.steps = peek::step_count(b);
+        self.accepted(Kind::Step, vec![before, plan(&a.plan), record, was, a.steps.clone()], vec![]);
+    }
+
+    /// `finish`, after the layout writer's own index list where there is one, and the check.
+    fn finish(&mut self, mut b: PlanBuilder, mut a: Areas, layout: Layout) -> Held {
+        if layout.own_index {
+            peek::set_indices(&mut b, &layout.index);
+            a.indices[..layout.index.len()].copy_from_slice(&layout.index);
+            a.plan.indices = layout.index.len();
+        }
+        let was = bits(&a.buffers);
+        let rust = b.finish();
+        a.buffers[..layout.buffers * layout.block].copy_from_slice(peek::buffers(&rust));
+        self.accepted(Kind::Finish, vec![plan(&a.plan), plan(&a.plan), was, bits(&a.buffers)], vec![]);
+        self.push(Kind::CheckPlan, Status::default(), lent(&a), vec![]);
+        Held { layout, rust, areas: a }
+    }
+
+    /// A setting; of an id that no node has, for which the reference answers false, where document 01 has number 9.
+    pub fn set(&mut self, h: &mut Held, s: &Setting) {
+        let (floats, words) = (bits(&h.areas.floats), h.areas.words.clone());
+        let known = h.rust.set_param(s.id, &s.values, s.ramp);
+        if known {
+            self.reached.extend(branches::setting(&h.layout, &h.areas, s));
+        }
+        rust::nodes_to(&h.rust.nodes, &mut h.areas.floats, &mut h.areas.words);
+        let status = if known { Status::default() } else { Status { number: 9, place: 0 } };
+        let areas = vec![bits(&s.values), floats, words, bits(&h.areas.floats), h.areas.words.clone()];
+        self.push(Kind::SetParam, status, areas, [&size(h.areas.plan.nodes)[..], &[s.id, s.ramp]].concat());
+    }
+
+    /// One block, with `more` samples of the output area behind those that are written.
+    pub fn run(&mut self, h: &mut Held, input: &Input, more: usize) {
+        let before = h.areas.clone();
+        let mut output = rust::process(&mut h.rust, &input.directory, &input.samples);
+        let count = output.len();
+        self.reached.extend(branches::run(&h.layout, &before, input, &output, more));
+        output.resize(count + more, 7.5);
+        let a = &mut h.areas;
+        rust::nodes_to(&h.rust.nodes, &mut a.floats, &mut a.words);
+        a.buffers[..h.layout.buffers * h.layout.block].copy_from_slice(peek::buffers(&h.rust));
+        let mut areas = run_areas(&before, input, &vec![7.5; output.len()]);
+        areas.extend([bits(&a.floats), a.words.clone(), bits(&a.buffers), bits(&output)]);
+        self.accepted(Kind::Process, areas, size(count).to_vec());
+    }
+
+    /// The source list of each slot that an Output names, and of the first one that none does, and the clean answer.
+    pub fn trace(&mut self, g: &mut Gen, h: &Held) {
+        let named = |slot: usize| h.layout.steps.iter().any(|s| matches!(s, Step::Output { slot: n, .. } if *n as usize == slot));
+        let lists = &h.rust.output_sources;
+        let unnamed = (0..lists.len()).find(|slot| !named(*slot));
+        for slot in (0..lists.len()).filter(|slot| named(*slot)).chain(unnamed) {
+            self.list(h, slot as u32, &lists[slot], g.r.pick(&[0, 1, 2]));
+        }
+        let clean = paper::clean(&h.areas).expect("a plan that the reference built");
+        self.reached.push(if clean { "a clean plan" } else { "a plan that is not clean" });
+        self.accepted(Kind::CleanAnswer, traced(&h.areas), vec![clean as u32]);
+    }
+
+    /// One list; number 2 for an area that is one entry short.
+    fn list(&mut self, h: &Held, slot: u32, list: &[u16], more: usize) {
+        let free = |n: usize| vec![0xabcd; n];
+        let wide: Vec<u32> = list.iter().map(|i| *i as u32).collect();
+        self.reached.extend(branches::list(&h.layout, slot, list));
+        let mut areas = traced(&h.areas);
+        areas.extend([free(list.len() + more), [wide, free(more)].concat()]);
+        self.accepted(Kind::OutputSources, areas, vec![slot, list.len() as u32]);
+        if let Some(n) = list.len().checked_sub(1) {
+            let mut areas = traced(&h.areas);
+            areas.extend([free(n), free(n)]);
+            self.push(Kind::OutputSources, Status { number: 2, place: 0 }, areas, vec![slot, 0]);
+        }
+    }
+
+    /// This plan takes over nodes of an old one.
+    pub fn adopt(&mut self, new: &mut Held, old: &mut Held, pairs: &[u32], ramp: u32) {
+        let (n, o) = (&mut new.areas, &old.areas);
+        let mut areas = vec![bits(&n.floats), n.words.clone(), bits(&o.floats), o.words.clone(), pairs.to_vec()];
+        self.reached.extend(branches::adoption(&new.rust, &old.rust, pairs, ramp));
+        rust::adopt(&mut new.rust, &mut old.rust, pairs, ramp);
+        rust::nodes_to(&new.rust.nodes, &mut n.floats, &mut n.words);
+        areas.extend([bits(&n.floats), n.words.clone()]);
+        self.accepted(Kind::Adopt, areas, adoption_numbers(&n.plan, &o.plan, ramp));
+    }
+
+    /// The channel lookup, for a channel of the directory, and the directory's own test.
+    pub fn lookup(&mut self, g: &mut Gen, input: &Input) {
+        let entries: Vec<&[u32]> = input.directory.chunks(4).collect();
+        let asked = if entries.is_empty() { [0, 0] } else { [g.r.pick(&entries)[0], g.r.pick(&entries)[1]] };
+        let part = paper::lookup(&input.directory, &input.samples, asked[0], asked[1]);
+        self.accepted(Kind::Lookup, vec![input.directory.clone(), bits(&input.samples), bits(part)], asked.to_vec());
+        self.directory(input);
+    }
+
+    pub fn directory(&mut self, input: &Input) {
+        let n = input.samples.len();
+        let bad = paper::bad_directory(&input.directory, n) as u32;
+        self.accepted(Kind::DirectoryBad, vec![input.directory.clone()], [&size(n)[..], &[bad]].concat());
+    }
+
+    /// A node whose areas somebody else wrote.
+    pub fn poke(&mut self, h: &mut Held, n: &NodePoke) {
+        h.areas.floats[FLOATS * n.node..][..FLOATS].copy_from_slice(&n.floats);
+        h.areas.words[WORDS * n.node + 1..][..2].copy_from_slice(&[n.len, n.left]);
+        rust::nodes_from(&mut h.rust, &h.areas.floats, &h.areas.words);
+    }
+}
+
+/// The areas of the check.
+pub fn lent(a: &Areas) -> Vec<Vec<u32>> {
+    let floats = bits(&a.floats);
+    vec![plan(&a.plan), a.indices.clone(), bits(&a.coefficients), floats, a.words.clone(), a.steps.clone(), bits(&a.buffers)]
+}
+
+/// The areas that a run is lent.
+pub fn run_areas(a: &Areas, input: &Input, output: &[f32]) -> Vec<Vec<u32>> {
+    let mut areas = lent(a);
+    areas.extend([input.directory.clone(), bits(&input.samples), bits(output)]);
+    areas
+}
+
+/// The areas that a trace is lent.
+pub fn traced(a: &Areas) -> Vec<Vec<u32>> {
+    vec![plan(&a.plan), a.indices.clone(), a.words.clone(), a.steps.clone()]
+}
+
+pub fn adoption_numbers(new: &Plan, old: &Plan, ramp: u32) -> Vec<u32> {
+    [&size(new.nodes)[..], &size(old.nodes), &[ramp]].concat()
+}
