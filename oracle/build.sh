@@ -3,7 +3,7 @@
 #   ORACLE_LIB   the folder of libmixer.a; where it is not set, `rt staticlib mixer` proves and builds the library first
 here=$(dirname "$0")
 said=$(mktemp) || exit 2
-trap 'rm -f "$said"' EXIT
+trap 'rm -f "$said" "$said".*' EXIT
 
 # Runs one stage quietly, and ends with what it said and its name where it fails.
 stage() {

@@ -26,6 +26,18 @@ pub const REFUSALS: &[(Kind, &[u32])] = &[
     (WidthMatrix, &[16, 17, 2]),
 ];
 
+/// These take much room, and are reached once.
+const LONG_BLOCK: &str = "a block of 1,024 samples";
+const LONG_DIRECTORY: &str = "a directory of 512 entries";
+
+/// How often a branch is to be reached, where it may be reached often.
+pub fn often(name: &str, times: u32) -> u32 {
+    if [LONG_BLOCK, LONG_DIRECTORY].contains(&name) {
+        return 1;
+    }
+    times
+}
+
 /// What plans, runs, settings, adoptions and lists must show.
 pub const BRANCHES: &[&str] = &[
     "Patch, no entry",
@@ -76,6 +88,8 @@ pub const BRANCHES: &[&str] = &[
     "an output area longer than needed",
     "a block of 1 sample",
     "a block of more than 16 samples",
+    LONG_BLOCK,
+    LONG_DIRECTORY,
     "set at once",
     "set with a ramp that ends in the block",
     "set with a ramp as long as the block",
@@ -225,6 +239,8 @@ pub fn run(l: &Layout, a: &Areas, input: &Input, output: &[f32], more: usize) ->
     n.when(more > 0, "an output area longer than needed");
     n.when(l.block == 1, "a block of 1 sample");
     n.when(l.block > 16, "a block of more than 16 samples");
+    n.when(l.block == paper::MAX_BLOCK, LONG_BLOCK);
+    n.when(input.directory.len() == 4 * paper::MAX_ENTRIES, LONG_DIRECTORY);
     n.seen
 }
 

@@ -1,6 +1,6 @@
 //! `oracle record FILE`: a sample of the reference's answers as a file, small enough to be kept with the port, whose program `replay` runs it.
 //! A case is taken where it reaches something that was not reached often enough yet, so that few cases reach everything on the lists of `branches.rs`.
-use crate::branches::{BRANCHES, REFUSALS};
+use crate::branches::{often, BRANCHES, REFUSALS};
 use crate::layouts::Gen;
 use crate::plan::Layout;
 use crate::recorded::{Case, Held};
@@ -11,11 +11,11 @@ use std::collections::BTreeMap;
 /// Plans of seeds from 1 on are tried.
 const SEEDS: u64 = 20_000;
 /// How often each branch and each refusal of a call is to be reached.
-const TIMES: u32 = 5;
+const TIMES: u32 = 4;
 /// How many plans have their builder calls recorded.
-const BUILDS: u32 = 12;
+const BUILDS: u32 = 8;
 
-const BLOCKS: [usize; 14] = [1, 1, 2, 3, 4, 5, 7, 8, 15, 16, 17, 24, 33, 40];
+const BLOCKS: [usize; 15] = [1, 1, 2, 3, 4, 5, 7, 8, 15, 16, 17, 24, 33, 40, 1024];
 
 #[derive(Default)]
 struct Recorder {
@@ -30,7 +30,8 @@ struct Recorder {
 /// A plan that costs little room, whose areas the program can lend.
 fn small(l: &Layout) -> bool {
     let samples = l.buffers.max(l.output_channels()) * l.block;
-    samples <= 200 && l.nodes.len() <= 3 && l.steps.len() <= 14 && l.coefficients.len() <= 16 && l.index.len() <= 30
+    let few = samples <= 200 || (l.block == 1024 && samples <= 2048);
+    few && l.nodes.len() <= 3 && l.steps.len() <= 14 && l.coefficients.len() <= 16 && l.index.len() <= 30
 }
 
 impl Recorder {
@@ -49,7 +50,7 @@ impl Recorder {
     }
 
     fn wanted(&self, c: &Case) -> bool {
-        c.reached.iter().any(|name| self.reached.get(name).map_or(true, |n| *n < TIMES))
+        c.reached.iter().any(|name| self.reached.get(name).copied().unwrap_or(0) < often(name, TIMES))
     }
 
     /// Takes those of the records whose call has not been refused with their number often enough.
@@ -115,7 +116,8 @@ impl Recorder {
 
 /// Settings, nodes that somebody else wrote, and blocks.
 fn rounds(c: &mut Case, g: &mut Gen, h: &mut Held) {
-    for _ in 0..g.r.range(1, 3) {
+    let most = if g.block > 40 { 1 } else { 3 };
+    for _ in 0..g.r.range(1, most) {
         for _ in 0..g.r.pick(&[0, 1, 1, 2]) {
             let s = g.setting(&h.layout);
             c.set(h, &s);

@@ -1,0 +1,72 @@
+-- `replay::areas::put_floats` is safe and ends. Assumes nothing.
+use Prim.Native.Nat.{_≤_, _-_}
+use mathlib.Core.Path.{_≡_}
+use lib.ListN.{length}
+use borrow.Author.Needs.{needs}
+use Rattle.replay.proofs.areas.put_floats.Statement.{statement}
+use Rattle.replay.proofs.areas.put_floats.Tie as tie
+
+abbrev Inv-loop : tie.InvT-loop
+Inv-loop words area₀ i₀ area i = (i ≤ length words) × (length area ≡ length area₀)
+
+abbrev μ-loop : tie.MeasureT-loop
+μ-loop words area₀ i₀ area i = length words - i
+
+loop-holds : tie.Need-loop-holds Inv-loop μ-loop
+loop-holds c = search needs
+
+mul-float-of : tie.Need-mul-float-of Inv-loop μ-loop
+mul-float-of c = search needs
+
+shared-slice-read-float-of : tie.Need-shared-slice-read-float-of Inv-loop μ-loop
+shared-slice-read-float-of c = search needs
+
+float-of-requires : tie.Need-float-of-requires Inv-loop μ-loop
+float-of-requires c κs = search needs
+
+mul-area : tie.Need-mul-area Inv-loop μ-loop
+mul-area c = search needs
+
+slice-write-area : tie.Need-slice-write-area Inv-loop μ-loop
+slice-write-area c = search needs
+
+add-i : tie.Need-add-i Inv-loop μ-loop
+add-i c = search needs
+
+loop-less : tie.Need-loop-less Inv-loop μ-loop
+loop-less c = search needs
+
+loop-again : tie.Need-loop-again Inv-loop μ-loop
+loop-again c = search needs
+
+same-length : tie.Need-same-length Inv-loop μ-loop
+same-length c = search needs
+
+returns : tie.Need-returns Inv-loop μ-loop
+returns c = search needs
+
+same-length-2 : tie.Need-same-length-2 Inv-loop μ-loop
+same-length-2 c = search needs
+
+returns-2 : tie.Need-returns-2 Inv-loop μ-loop
+returns-2 c = search needs
+
+pub put-floats-spec : {M : Type 1} → statement M
+put-floats-spec =
+    tie.close
+    (tie.spec
+    Inv-loop
+    μ-loop
+    loop-holds
+    mul-float-of
+    shared-slice-read-float-of
+    float-of-requires
+    mul-area
+    slice-write-area
+    add-i
+    loop-less
+    loop-again
+    same-length
+    returns
+    same-length-2
+    returns-2)

@@ -1,0 +1,20 @@
+-- `replay::floats::float_of` meets its contract. Assumes nothing.
+use mathlib.Core.Path.{_≡_, sym, _∙_}
+use lib.Ieee.{nan, binary32, div, ofBits}
+use Rattle.replay.proofs.Bits.{nan-read, number-read}
+use borrow.Author.Needs.{needs}
+use Rattle.replay.proofs.floats.float_of.Statement.{statement}
+use Rattle.replay.proofs.floats.float_of.Tie as tie
+
+returns : tie.Need-returns
+unfolding div ofBits
+returns c = sym (nan-read binary32 (c .before .args .bits) (c .if1 .taken))
+
+float-from-bits-result : tie.Need-float-from-bits-result
+float-from-bits-result c = number-read binary32 (c .before .args .bits) (c .if1 .left)
+
+returns-2 : tie.Need-returns-2
+returns-2 c = search needs
+
+pub float-of-spec : {M : Type 1} → statement M
+float-of-spec = tie.close (tie.spec returns float-from-bits-result returns-2)
