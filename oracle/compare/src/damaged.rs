@@ -9,8 +9,8 @@ use crate::paper::{self, Lent, Tables};
 use crate::plan::{Areas, Layout, Step, FLOATS, WORDS};
 use crate::plans;
 use crate::refused::{kept, kept_answer, off, off32, process};
-use crate::rust;
 use crate::twin::areas;
+use crate::{rust, traced};
 use reference::engine::plan::peek;
 
 /// A source list for each slot.
@@ -151,6 +151,7 @@ fn judge(j: &mut Judge, g: &mut Gen, a: &Areas, input: &Input, copies: &mut Copi
     }
     let lists = run(j, g, a, whole, input, copies)?;
     let slot = g.slot() + g.r.pick(&[0, 0, 1]);
+    all_sources(j, a, &lists)?;
     sources(j, a, slot, lists)?;
     let reply = mixer::clean_answer(a.plan, &a.indices, &a.words, &a.steps);
     match paper::clean(a) {
@@ -226,6 +227,15 @@ fn ran(j: &mut Judge, a: &Areas, steps: &[Step], input: &Input, copies: &mut Cop
     want.buffers[..a.plan.buffers * a.plan.block].copy_from_slice(peek::buffers(&rust));
     areas(want, &copies.port)?;
     Ok(rust.output_sources)
+}
+
+/// The lists of all slots.
+fn all_sources(j: &mut Judge, a: &Areas, lists: &Option<Lists>) -> Found {
+    match (paper::check(a, Lent::Trace), lists) {
+        (Err(s), _) => refusal(j, "all_sources", s, traced::refused(a, 3, 3 * traced::PLACES)?),
+        (Ok(_), Some(lists)) => traced::all(j, a, lists),
+        (Ok(steps), None) => traced::all(j, a, &rust::sources(a, &steps)),
+    }
 }
 
 /// The list of a slot. The trace is lent fewer areas than the run, so it may accept a plan that the run refuses.

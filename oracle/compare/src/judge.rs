@@ -84,6 +84,8 @@ faults! {
     SourceLess: "a source list with one input less",
     SourceOther: "a source list with another input",
     SlotMore: "one slot more",
+    AllCount: "the length of the last of all source lists",
+    AllInput: "the first place of the last of all source lists",
     Clean: "the other clean answer",
     BuiltSpan: "the start of a builder's span",
     BuiltNode: "a builder's node number",

@@ -34,6 +34,7 @@ mod speed;
 mod stopwatch;
 mod strays;
 mod tape;
+mod traced;
 mod twin;
 
 use judge::{Counts, Found, Judge};

@@ -8,6 +8,7 @@ use crate::paper::MAX_RAMP;
 use crate::plan::{Areas, Layout, Step, WORDS};
 use crate::rng::Rng;
 use crate::stopwatch::Race;
+use crate::traced::PLACES;
 use crate::twin::Twin;
 use crate::{building, rust};
 use reference::engine::plan::{peek, InputSource, OutputSink};
@@ -180,13 +181,14 @@ impl Race for Check {
     }
 }
 
-/// The source lists of all slots: the reference's one call has them all, the port is asked slot by slot.
+/// The source lists of all slots, each side's from one call.
 pub struct Lists {
     builder: rust::PlanBuilder,
     port: Areas,
     rust_lists: Vec<Vec<u16>>,
-    lists: Vec<[u16; 256]>,
-    replies: Vec<CountReply>,
+    counts: Vec<u32>,
+    lists: Vec<u16>,
+    reply: CountReply,
 }
 
 impl Lists {
@@ -198,8 +200,9 @@ impl Lists {
             builder,
             port: twin.port,
             rust_lists: Vec::new(),
-            lists: vec![[0; 256]; slots],
-            replies: vec![CountReply::default(); slots],
+            counts: vec![0; slots],
+            lists: vec![0; PLACES * slots],
+            reply: CountReply::default(),
         })
     }
 }
@@ -212,18 +215,46 @@ impl Race for Lists {
 
     fn port(&mut self) {
         let p = &self.port;
-        for (slot, (list, reply)) in self.lists.iter_mut().zip(&mut self.replies).enumerate() {
-            *reply = mixer::output_sources(p.plan, slot as u32, &p.indices, &p.words, &p.steps, list);
-        }
+        self.reply = mixer::all_sources(p.plan, &p.indices, &p.words, &p.steps, &mut self.counts, &mut self.lists);
     }
 
     fn compare(&self) -> Found {
-        same("slots", &self.rust_lists.len(), &self.lists.len())?;
-        for ((want, list), reply) in self.rust_lists.iter().zip(&self.lists).zip(&self.replies) {
-            same("source list", &CountReply { count: want.len(), ..CountReply::default() }, reply)?;
-            words("source list", want, &list[..want.len()])?;
+        same("slots", &CountReply { count: self.rust_lists.len(), ..CountReply::default() }, &self.reply)?;
+        for (slot, want) in self.rust_lists.iter().enumerate() {
+            same("count of a source list", &(want.len() as u32), &self.counts[slot])?;
+            words("source list", want, &self.lists[PLACES * slot..][..want.len()])?;
         }
         Ok(())
+    }
+}
+
+/// The same lists, for which the port is asked slot by slot.
+pub struct BySlot(Lists);
+
+impl BySlot {
+    pub fn new(layout: Layout) -> Result<Self, String> {
+        Lists::new(layout).map(BySlot)
+    }
+}
+
+impl Race for BySlot {
+    fn rust(&mut self) {
+        self.0.rust();
+    }
+
+    fn port(&mut self) {
+        let Lists { port: p, counts, lists, reply, .. } = &mut self.0;
+        let mut slots = 0;
+        for (slot, (count, list)) in counts.iter_mut().zip(lists.chunks_mut(PLACES)).enumerate() {
+            let answer = mixer::output_sources(p.plan, slot as u32, &p.indices, &p.words, &p.steps, list);
+            *count = answer.count as u32;
+            slots += (answer.status == Status::default()) as usize;
+        }
+        reply.count = slots;
+    }
+
+    fn compare(&self) -> Found {
+        self.0.compare()
     }
 }
 

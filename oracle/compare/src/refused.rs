@@ -7,6 +7,7 @@ use crate::ops::Input;
 use crate::paper::{self, Lent, MAX_ENTRIES, MAX_RAMP};
 use crate::plan::{Areas, FLOATS, WORDS};
 use crate::rng::Rng;
+use crate::traced;
 use crate::twin::Twin;
 
 /// One less, one more, nothing, the largest, or anything.
@@ -203,7 +204,7 @@ fn adopt(j: &mut Judge, g: &mut Gen, twin: &Twin) -> Found {
     kept(j, &old_before, &old)
 }
 
-/// The three calls that read a plan: the trace, the clean answer and the check.
+/// The calls that read a plan: the trace of a slot and of all, the clean answer and the check.
 fn trace(j: &mut Judge, g: &mut Gen, twin: &Twin) -> Found {
     let mut a = twin.port.clone();
     spoil(&mut g.r, &mut a);
@@ -211,7 +212,7 @@ fn trace(j: &mut Judge, g: &mut Gen, twin: &Twin) -> Found {
     readers(j, &a, slot)
 }
 
-/// The answers of the three readers, refused ones only, for areas and a slot of any kind.
+/// The answers of these readers, refused ones only, for areas and a slot of any kind.
 fn readers(j: &mut Judge, a: &Areas, slot: u32) -> Found {
     let after = a.clone();
     let mut list = vec![0xabcd; 256];
@@ -220,6 +221,9 @@ fn readers(j: &mut Judge, a: &Areas, slot: u32) -> Found {
         j.refusal("output_sources", refusal, reply.status)?;
         same("count of a refused output_sources", &0, &reply.count)?;
         words("source list after a refusal", &[0xabcd; 256], &list)?;
+    }
+    if let Err(refusal) = paper::check(a, Lent::Trace) {
+        j.refusal("all_sources", refusal, traced::refused(&after, 3, 3 * traced::PLACES)?)?;
     }
     if let Err(refusal) = paper::clean(a) {
         let reply = mixer::clean_answer(a.plan, &after.indices, &after.words, &after.steps);

@@ -2,7 +2,8 @@
 use crate::desks::{mixer as desk, Sends, Weights};
 use crate::judge::Found;
 use crate::kinds;
-use crate::races::{Desk, Fold, Lists, Nodes, Stereo};
+use crate::plan::Layout;
+use crate::races::{BySlot, Desk, Fold, Lists, Nodes, Stereo};
 use crate::stopwatch::{Table, Times};
 use std::process::Command;
 
@@ -71,17 +72,21 @@ fn blocks(t: &mut Table) -> Found {
     Ok(())
 }
 
-/// Every strip sent to every bus, with as many strips as 512 steps have room for; then every strip to an output of its own.
+/// Every strip sent to every bus, with as many strips as 512 steps have room for; then every strip to an output of its own. The port's lists are from
+/// one call, as the reference's are, and then, without a budget, from a call for each slot.
 fn lists(t: &mut Table) -> Found {
     for (strips, buses) in [(32, 1), (8, 2), (32, 8), (32, 9), (24, 16), (12, 32)] {
-        let layout = || desk(1, strips, buses, Weights::Full, Sends::All);
-        t.line(&format!("trace {strips}x{buses} all-sends"), 1.0, Some(1.0), || Lists::new(layout()))?;
+        traces(t, &format!("{strips}x{buses} all-sends"), || desk(1, strips, buses, Weights::Full, Sends::All))?;
     }
     for strips in [1, 8, 16, 32] {
-        let layout = || desk(1, strips, strips, Weights::Full, Sends::Own);
-        t.line(&format!("trace {strips}x{strips} own-output"), 1.0, Some(1.0), || Lists::new(layout()))?;
+        traces(t, &format!("{strips}x{strips} own-output"), || desk(1, strips, strips, Weights::Full, Sends::Own))?;
     }
     Ok(())
+}
+
+fn traces(t: &mut Table, name: &str, layout: impl Fn() -> Layout) -> Found {
+    t.line(&format!("trace {name}"), 1.0, Some(1.0), || Lists::new(layout()))?;
+    t.line(&format!("trace-by-slot {name}"), 1.0, None, || BySlot::new(layout()))
 }
 
 fn folds(t: &mut Table) -> Found {

@@ -4,7 +4,7 @@ use crate::layouts::Gen;
 use crate::mixer::{self, CountReply, Status};
 use crate::ops::{Input, NodePoke, Setting};
 use crate::plan::{Areas, Layout, FLOATS, VALUES, WORDS};
-use crate::rust;
+use crate::{rust, traced};
 use reference::engine::plan::peek;
 
 pub struct Twin {
@@ -115,7 +115,8 @@ impl Twin {
         areas(&self.want, &self.port)
     }
 
-    /// The source list of each slot, number 15 behind the last, number 2 for an area that is one entry short, and the clean answer.
+    /// The source list of each slot, number 15 behind the last, number 2 for an area that is one entry short; all lists from one call; and the
+    /// clean answer.
     pub fn trace(&self, j: &mut Judge) -> Found {
         let mut lists = self.rust.output_sources.clone();
         if j.plants(Fault::SlotMore) {
@@ -125,6 +126,7 @@ impl Twin {
             plant_in_list(j, list);
             self.list(j, slot as u32, list)?;
         }
+        traced::all(j, &self.port, &lists)?;
         j.counts.calls += 1;
         let mut clean = crate::paper::clean(&self.want).map_err(|s| format!("document 01 refuses the plan: {s:?}"))?;
         if j.plants(Fault::Clean) {
