@@ -1,0 +1,2 @@
+-- laws of the digest and of the signals
+pub mod Laws

@@ -1,0 +1,18 @@
+-- `signals::digest::with_sample` meets its contract. Assumes nothing.
+use Rattle.signals.specs.Digest.{withSample}
+use borrow.Author.Needs.{needs}
+use Rattle.signals.proofs.digest.with_sample.Statement.{statement}
+use Rattle.signals.proofs.digest.with_sample.Tie as tie
+
+pattern-requires : tie.Need-pattern-requires
+pattern-requires c κs = search needs
+
+with-word-requires : tie.Need-with-word-requires
+with-word-requires c κs = search needs
+
+returns : tie.Need-returns
+unfolding withSample
+returns c = cc
+
+pub with-sample-spec : {M : Type 1} → statement M
+with-sample-spec = tie.close (tie.spec pattern-requires with-word-requires returns)

@@ -1,0 +1,3 @@
+-- What the contracts speak of: the digest and the signals.
+pub mod Digest
+pub mod Signals
