@@ -1,0 +1,139 @@
+// The default layout, as tables: six inputs, each with a strip, and nine outputs, each with a bus. A line is where a strip or a bus ends: the
+// strips are lines 0 to 5, and the bus of slot s is line 6 + s.
+use format::Format;
+ghost use Prim.Native.Nat.{_<_};
+
+pub const STRIPS: usize = 6;
+
+pub const SLOTS: usize = 9;
+
+pub const LINES: usize = STRIPS + SLOTS;
+
+pub const SENDS: usize = 23;
+
+// The lines of the strips.
+pub const NARRATOR: usize = 0;
+
+pub const SINGER: usize = 1;
+
+pub const BAND: usize = 2;
+
+pub const FILM: usize = 3;
+
+pub const EFFECTS: usize = 4;
+
+pub const TALKBACK: usize = 5;
+
+// The slots.
+pub const HALL: usize = 0;
+
+pub const BALCONY: usize = 1;
+
+pub const FOYER: usize = 2;
+
+pub const STAGE: usize = 3;
+
+pub const PIT: usize = 4;
+
+pub const LOOP: usize = 5;
+
+pub const RECORDING: usize = 6;
+
+pub const CREW: usize = 7;
+
+pub const LOUNGE: usize = 8;
+
+// Where a bus is made of sends, and is no fold of another slot's bus.
+pub const OF_SENDS: usize = SLOTS;
+
+// The id of its level, the input, the input's format, the format of the line, the level.
+pub struct Strip(pub u32, pub u32, pub u32, pub u32, pub f32);
+
+// The format of a slot's bus, the slot whose bus it folds, the id of the fold's gains.
+pub struct Slot(pub u32, pub usize, pub u32);
+
+// The id of its level, the line that is sent, the slot whose bus takes it, the level.
+pub struct Send(pub u32, pub usize, pub usize, pub f32);
+
+const STRIP_TABLE: [Strip; STRIPS] = [
+    Strip(100, 3, Format::MONO, Format::MONO, 1.0),
+    Strip(101, 4, Format::MONO, Format::STEREO, 0.75),
+    Strip(102, 10, Format::STEREO, Format::STEREO, 0.5),
+    Strip(103, 20, Format::SURROUND_51, Format::SURROUND_51, 0.75),
+    Strip(104, 31, Format::STEREO, Format::STEREO, 0.5),
+    Strip(105, 60, Format::MONO, Format::MONO, 1.0),
+];
+
+const SLOT_TABLE: [Slot; SLOTS] = [
+    Slot(Format::SURROUND_51, OF_SENDS, 0),
+    Slot(Format::STEREO, HALL, 301),
+    Slot(Format::MONO, BALCONY, 302),
+    Slot(Format::STEREO, OF_SENDS, 0),
+    Slot(Format::MONO, OF_SENDS, 0),
+    Slot(Format::MONO, OF_SENDS, 0),
+    Slot(Format::STEREO, OF_SENDS, 0),
+    Slot(Format::MONO, OF_SENDS, 0),
+    Slot(Format::LCR, OF_SENDS, 0),
+];
+
+// The talkback is closed in the hall until a setting opens it. The cue sheet lists it all the same.
+const SEND_TABLE: [Send; SENDS] = [
+    Send(200, NARRATOR, HALL, 1.0),
+    Send(201, SINGER, HALL, 0.75),
+    Send(202, BAND, HALL, 0.5),
+    Send(203, FILM, HALL, 1.0),
+    Send(204, EFFECTS, HALL, 0.5),
+    Send(205, TALKBACK, HALL, 0.0),
+    Send(231, SINGER, STAGE, 1.0),
+    Send(232, BAND, STAGE, 0.5),
+    Send(240, NARRATOR, PIT, 0.5),
+    Send(241, SINGER, PIT, 1.0),
+    Send(244, EFFECTS, PIT, 0.25),
+    Send(250, NARRATOR, LOOP, 1.0),
+    Send(251, SINGER, LOOP, 1.0),
+    Send(253, FILM, LOOP, 0.5),
+    Send(260, NARRATOR, RECORDING, 0.5),
+    Send(261, SINGER, RECORDING, 0.5),
+    Send(262, BAND, RECORDING, 0.5),
+    Send(263, FILM, RECORDING, 0.5),
+    Send(264, EFFECTS, RECORDING, 0.25),
+    Send(270, NARRATOR, CREW, 0.25),
+    Send(275, TALKBACK, CREW, 1.0),
+    Send(282, BAND, LOUNGE, 0.5),
+    Send(283, FILM, LOUNGE, 1.0),
+];
+
+// i, or the first of a table of n rows that has no row i. Requires that it has a first.
+fn row(i: usize, n: usize) -> usize
+    requires { ⌜ 0 < n ⌝ }
+    ensures { λ r. ⌜ r < n ⌝ }
+{
+    if i < n {
+        return i;
+    }
+    0
+}
+
+pub fn strip_at(i: usize) -> Strip {
+    STRIP_TABLE[row(i, STRIPS)]
+}
+
+pub fn slot_at(i: usize) -> Slot {
+    SLOT_TABLE[row(i, SLOTS)]
+}
+
+pub fn send_at(i: usize) -> Send {
+    SEND_TABLE[row(i, SENDS)]
+}
+
+// The line of a slot's bus.
+pub fn bus(slot: usize) -> usize {
+    STRIPS + row(slot, SLOTS)
+}
+
+pub fn line_format(line: usize) -> u32 {
+    if line < STRIPS {
+        return strip_at(line).3;
+    }
+    slot_at(line - STRIPS).0
+}

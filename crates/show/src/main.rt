@@ -1,0 +1,150 @@
+// The default show of a theatre unit: a layout of nine outputs, four seconds of it, and its cue sheet. A call that is refused, and is not shown
+// as such, ends the program with a line that says so.
+mod desk;
+mod draft;
+mod gains;
+mod layout;
+mod names;
+mod overview;
+mod refused;
+mod runs;
+mod settings;
+mod sheet;
+mod text;
+
+use plan::Plan;
+use refusal::Answer;
+ghost use mathlib.Core.Path.{_≡_};
+ghost use lib.ListN.{length};
+
+// Four seconds at 48,000 samples a second.
+const BLOCKS: usize = 750;
+
+// Calls that are refused are made before this block. They change nothing, so the digests are those of a run without them.
+const REFUSED: usize = 375;
+
+// The run, in two parts. Requires a digest for each slot.
+fn run_all(
+    plan: Plan,
+    indices: &[u32],
+    coefficients: &[f32],
+    floats: &mut [f32],
+    words: &mut [u32],
+    steps: &[u32],
+    buffers: &mut [f32],
+    digests: &mut [u32],
+) -> Answer
+    requires { ⌜ length (now digests) ≡ 9 ⌝ }
+{
+    let answer = runs::blocks(
+        0,
+        REFUSED,
+        plan,
+        indices,
+        coefficients,
+        floats,
+        words,
+        steps,
+        buffers,
+        digests,
+    );
+    if let Answer::Refused(r) = answer {
+        return Answer::Refused(r);
+    }
+    refused::calls(
+        REFUSED * signals::BLOCK,
+        plan,
+        indices,
+        coefficients,
+        floats,
+        words,
+        steps,
+        buffers,
+    );
+    runs::blocks(
+        REFUSED,
+        BLOCKS,
+        plan,
+        indices,
+        coefficients,
+        floats,
+        words,
+        steps,
+        buffers,
+        digests,
+    )
+}
+
+// What a plan that is laid out does: whether it is clean, its run, its cue sheet.
+fn show(
+    plan: Plan,
+    indices: &[u32],
+    coefficients: &[f32],
+    floats: &mut [f32],
+    words: &mut [u32],
+    steps: &[u32],
+    buffers: &mut [f32],
+) -> Answer {
+    overview::counts(plan);
+    if let Answer::Refused(r) = sheet::clean(plan, indices, &words[..], steps) {
+        return Answer::Refused(r);
+    }
+    overview::run();
+    let mut digests = [signals::digest::START; layout::SLOTS];
+    let answer = run_all(
+        plan,
+        indices,
+        coefficients,
+        floats,
+        words,
+        steps,
+        buffers,
+        &mut digests,
+    );
+    if let Answer::Refused(r) = answer {
+        return Answer::Refused(r);
+    }
+    sheet::rows(&digests, plan, indices, &words[..], steps)
+}
+
+fn stopped(answer: Answer) {
+    if let Answer::Refused(r) = answer {
+        text::put(b"\nThe show has stopped: ");
+        text::refusal(r);
+        text::put(b"\n");
+    }
+}
+
+fn main() {
+    let mut indices = [0u32; 64];
+    let mut coefficients = [0.0f32; 256];
+    let mut floats = [0.0f32; 2_880];
+    let mut words = [0u32; 120];
+    let mut steps = [0u32; 512];
+    let mut buffers = [0.0f32; 16_384];
+    text::put(b"Sezhqolma: the default show of a theatre unit\n");
+    overview::tables();
+    let draft = desk::laid_out(
+        &mut indices,
+        &mut coefficients,
+        &mut floats,
+        &mut words,
+        &mut steps,
+        &mut buffers,
+    );
+    if draft::refused(draft) {
+        let answer = draft.answer;
+        stopped(answer);
+        return;
+    }
+    let answer = show(
+        draft.plan,
+        &indices,
+        &coefficients,
+        &mut floats,
+        &mut words,
+        &steps,
+        &mut buffers,
+    );
+    stopped(answer);
+}

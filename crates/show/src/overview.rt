@@ -1,0 +1,88 @@
+// The layout in words, from its tables.
+use crate::layout;
+use crate::names;
+use crate::text;
+use plan::Plan;
+
+fn input(line: usize) {
+    let row = layout::strip_at(line);
+    text::right(row.1 as u64, 6);
+    text::put(b"  ");
+    names::strip(line, 14);
+    names::format(row.2, 0);
+    match line {
+        layout::SINGER => text::put(b", with a panner"),
+        layout::BAND => text::put(b", with a width"),
+        _ => {}
+    }
+    text::put(b"\n");
+}
+
+fn inputs() {
+    text::put(b"\nInputs\n");
+    for line in 0..layout::STRIPS {
+        input(line);
+    }
+}
+
+// Send i, where it is one to the slot.
+fn sent(slot: usize, i: usize) {
+    let row = layout::send_at(i);
+    if row.2 == slot {
+        text::put(b" ");
+        names::strip(row.1, 0);
+    }
+}
+
+fn sends(slot: usize) {
+    text::put(b"mix of");
+    for i in 0..layout::SENDS {
+        sent(slot, i);
+    }
+}
+
+fn output(slot: usize) {
+    let row = layout::slot_at(slot);
+    text::right(slot as u64, 6);
+    text::put(b"  ");
+    names::slot(slot, 14);
+    names::format(row.0, 8);
+    if row.1 == layout::OF_SENDS {
+        sends(slot);
+    } else {
+        text::put(b"fold of ");
+        names::slot(row.1, 0);
+    }
+    text::put(b"\n");
+}
+
+fn outputs() {
+    text::put(b"\nOutputs, by slot\n");
+    for slot in 0..layout::SLOTS {
+        output(slot);
+    }
+}
+
+pub fn tables() {
+    inputs();
+    outputs();
+}
+
+pub fn counts(plan: Plan) {
+    text::put(b"\nPlan: ");
+    text::whole(plan.buffers);
+    text::put(b" buffers, ");
+    text::whole(plan.coefficients);
+    text::put(b" coefficients, ");
+    text::whole(plan.nodes);
+    text::put(b" nodes, ");
+    text::whole(plan.steps);
+    text::put(b" steps of ");
+    text::whole(plan.words);
+    text::put(b" words");
+}
+
+pub fn run() {
+    text::put(b"\nRun: 750 blocks of 256 samples, four seconds at 48,000 a second\n");
+    text::put(b"       0  every level fades in over 4,800 samples\n");
+}

@@ -1,0 +1,132 @@
+// Calls that are refused, and what they leave.
+use crate::runs;
+use crate::settings;
+use crate::text;
+use plan::Plan;
+use refusal::Answer;
+use refusal::Refusal;
+use run::Ran;
+use signals::digest;
+ghost use mathlib.Core.Path.{_≡_};
+ghost use Rattle.signals.specs.Digest.{start, ofWords, ofSamples};
+
+// A digest of all nodes.
+fn of_nodes(floats: &[f32], words: &[u32]) -> u32
+    ensures { λ r. ⌜ r ≡ ofWords (ofSamples start (now (floats .entry))) (now (words .entry)) ⌝ }
+{
+    digest::of_words(digest::of_samples(digest::START, floats), words)
+}
+
+// A digest of all that a run may write.
+fn of_areas(floats: &[f32], words: &[u32], buffers: &[f32], output: &[f32]) -> u32
+    ensures { λ r. ⌜ r ≡ ofSamples (ofSamples (ofWords (ofSamples start (now (floats .entry))) (now (words .entry))) (now (buffers .entry))) (now (output .entry)) ⌝ }
+{
+    digest::of_samples(digest::of_samples(of_nodes(floats, words), buffers), output)
+}
+
+// The line of a refused call; its areas had the digest `before`, and have the digest `after`.
+fn line(from: usize, what: &[u8], r: Refusal, before: u32, after: u32) {
+    settings::at(from);
+    text::put(what);
+    text::put(b": ");
+    text::refusal(r);
+    if before == after {
+        text::put(b"; its areas are as they were: yes\n");
+        return;
+    }
+    text::put(b"; its areas are as they were: no\n");
+}
+
+fn setting(
+    from: usize,
+    what: &[u8],
+    id: u32,
+    ramp: u32,
+    nodes: usize,
+    floats: &mut [f32],
+    words: &mut [u32],
+) {
+    let before = of_nodes(&floats[..], &words[..]);
+    let answer = run::set_param(nodes, id, &[0.5], ramp, floats, words);
+    let after = of_nodes(&floats[..], &words[..]);
+    if let Answer::Refused(r) = answer {
+        line(from, what, r, before, after);
+    }
+}
+
+// A run whose output area is a sample short.
+fn short_run(
+    from: usize,
+    plan: Plan,
+    indices: &[u32],
+    coefficients: &[f32],
+    floats: &mut [f32],
+    words: &mut [u32],
+    steps: &[u32],
+    buffers: &mut [f32],
+) {
+    let mut output = [0.5f32; runs::OUTPUT - 1];
+    let before = of_areas(&floats[..], &words[..], &buffers[..], &output);
+    let answer = runs::ran(
+        0,
+        plan,
+        indices,
+        coefficients,
+        floats,
+        words,
+        steps,
+        buffers,
+        &mut output,
+    );
+    let after = of_areas(&floats[..], &words[..], &buffers[..], &output);
+    if let Ran::Refused(r) = answer {
+        line(
+            from,
+            b"a run with an output area of 4,863 samples",
+            r,
+            before,
+            after,
+        );
+    }
+}
+
+// An id that no node has, a ramp that is a sample too long, and the run.
+pub fn calls(
+    from: usize,
+    plan: Plan,
+    indices: &[u32],
+    coefficients: &[f32],
+    floats: &mut [f32],
+    words: &mut [u32],
+    steps: &[u32],
+    buffers: &mut [f32],
+) {
+    setting(
+        from,
+        b"a setting of node 999",
+        999,
+        0,
+        plan.nodes,
+        floats,
+        words,
+    );
+    setting(
+        from,
+        b"a ramp of 16,777,217 samples",
+        100,
+        16_777_217,
+        plan.nodes,
+        floats,
+        words,
+    );
+    short_run(
+        from,
+        plan,
+        indices,
+        coefficients,
+        floats,
+        words,
+        steps,
+        buffers,
+    );
+}
