@@ -1,4 +1,6 @@
 //! What the file of `oracle record` must reach. Each name here was counted by a case, or the file is not written.
+use crate::mapping;
+use crate::mixer::FoldGains;
 use crate::ops::{Input, Setting};
 use crate::paper;
 use crate::plan::{Areas, Layout, Step, FLOATS, VALUES, WORDS};
@@ -111,6 +113,31 @@ pub const BRANCHES: &[&str] = &[
     "adoption, other lens",
     "adoption at once",
     "adoption with a ramp",
+    "fold, a label that both have",
+    "fold, M to C",
+    "fold, M to L and R",
+    "fold, L to M",
+    "fold, R to M",
+    "fold, C to L and R",
+    "fold, LFE to L and R",
+    "fold, LFE dropped",
+    "fold, Ls to Lss",
+    "fold, Ls to L",
+    "fold, Rs to Rss",
+    "fold, Rs to R",
+    "fold, Lss to Ls",
+    "fold, Rss to Rs",
+    "fold, Lrs to Ls",
+    "fold, Rrs to Rs",
+    "fold, Ltf to L",
+    "fold, Rtf to R",
+    "fold, Ltr to Lrs",
+    "fold, Ltr to Ls",
+    "fold, Rtr to Rrs",
+    "fold, Rtr to Rs",
+    "fold, normalised and divided",
+    "fold, normalised, no row above 1",
+    "fold, not normalised",
 ];
 
 /// The name of a node's state before a step's block.
@@ -267,6 +294,19 @@ pub fn list(l: &Layout, slot: u32, list: &[u16]) -> Vec<&'static str> {
     let mut seen = vec![["a list of no inputs", "a list of one input", "a list of several inputs"][list.len().min(2)]];
     seen.extend((!named).then_some("a list for a slot that no Output names"));
     seen.extend(list.iter().any(|i| *i > 191).then_some("a list with an input above 191"));
+    seen
+}
+
+/// What a fold by gains of the reference's own laws reaches.
+pub fn fold(src: &[&str], dst: &[&str], g: &FoldGains, normalise: bool) -> Vec<&'static str> {
+    let ways: Vec<String> = mapping::ways(src, dst, g).iter().map(|way| format!("fold, {way}")).collect();
+    let mut seen: Vec<&'static str> = BRANCHES.iter().filter(|name| ways.iter().any(|w| w == *name)).copied().collect();
+    let divided = mapping::matrix(src, dst, g, true) != mapping::matrix(src, dst, g, false);
+    seen.push(match (normalise && src.len() > 2 && dst.len() < src.len(), divided) {
+        (true, true) => "fold, normalised and divided",
+        (true, false) => "fold, normalised, no row above 1",
+        (false, _) => "fold, not normalised",
+    });
     seen
 }
 

@@ -30,6 +30,24 @@ fn ends(label: &str, dst: &[&str], gain: f64, g: &FoldGains) -> Vec<(usize, f64)
     }
 }
 
+/// What the labels of the source turn into on their way, as 'C to L and R'.
+pub fn ways(src: &[&str], dst: &[&str], g: &FoldGains) -> Vec<String> {
+    src.iter().flat_map(|label| way(label, dst, g)).collect()
+}
+
+fn way(label: &str, dst: &[&str], g: &FoldGains) -> Vec<String> {
+    if dst.contains(&label) {
+        return vec!["a label that both have".to_string()];
+    }
+    if label == "LFE" && g.lfe == 0.0 {
+        return vec!["LFE dropped".to_string()];
+    }
+    let to = turns(label, dst, g);
+    let names: Vec<&str> = to.iter().map(|t| t.0).collect();
+    let own = format!("{label} to {}", names.join(" and "));
+    std::iter::once(own).chain(names.into_iter().flat_map(|l| way(l, dst, g))).collect()
+}
+
 /// The labels that a missing one turns into.
 fn turns(label: &str, dst: &[&str], g: &FoldGains) -> Vec<(&'static str, f64)> {
     let half = FRAC_1_SQRT_2;

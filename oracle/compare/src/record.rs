@@ -135,9 +135,10 @@ fn rounds(c: &mut Case, g: &mut Gen, h: &mut Held) {
 fn text(r: &Recorder) -> String {
     format!(
         "Answers of the Rust mixer (commit f575066b19) to calls of the plan engine and the folds, for the program `replay`.
-Made by `oracle record FILE` (oracle/README.md), which makes the same bytes each time; this file is not edited by hand.
+Made by `oracle record FILE` (oracle/README.md), which makes the same bytes each time.
 Plans are those of {} of the seeds 1 to {SEEDS}, taken where they reach a branch that fewer than {TIMES} cases had reached.
-Samples, nodes, buffers, lists and folds are the Rust's; refusals, the check and the clean answer, which it does not have, document 01's.
+Samples, nodes, buffers, lists, balances, roundings and folds by its laws are the Rust's. What it lacks is the oracle's: lookups, refusals, the
+check and the clean answer by document 01, other folds by a table.
 
 After this text of 1,024 bytes: u32 words, the lowest byte first. Words 0 to 4: 5245504C (hexadecimal), version 1, words in all, records,
 the word at which the records start; before that the areas. A record: kind, length in words, refusal's number and place (0: accepted),

@@ -1,4 +1,5 @@
 //! Records of formats, balances, folds and the rounding.
+use crate::branches;
 use crate::folds::{channels, gains_of, law, out_of_range, FORMATS, LABELS};
 use crate::mapping;
 use crate::mixer::{FoldGains, Status};
@@ -6,7 +7,8 @@ use crate::numbers;
 use crate::recorded::Case;
 use crate::rng::Rng;
 use crate::tape::{bits, double, Kind};
-use reference::mix::format;
+use reference::mix::format::{self, Downmix};
+use reference::mix::model::Db;
 
 /// Some of everything.
 pub fn all(c: &mut Case, seed: u64) {
@@ -19,15 +21,32 @@ pub fn all(c: &mut Case, seed: u64) {
         balance(c, &mut r, b);
     }
     for normalise in [false, true] {
-        let mut laws = law(&mut r);
-        laws.downmix.normalise = normalise;
+        for quiet in [false, true] {
+            by_law(c, &mut r, normalise, quiet);
+        }
         let gains = numbers::gains(&mut r);
-        for (src, dst) in (0..49).map(|i| (i / 7, i % 7)) {
-            let matrix = format::width_matrix(FORMATS[src], FORMATS[dst], &laws);
-            width(c, src, dst, &gains_of(&laws), normalise, &matrix);
+        for (src, dst) in pairs() {
             let matrix = mapping::matrix(FORMATS[src].labels(), FORMATS[dst].labels(), &gains, normalise);
             width(c, src, dst, &gains, normalise, &matrix);
         }
+    }
+}
+
+/// Every two formats.
+fn pairs() -> impl Iterator<Item = (usize, usize)> {
+    (0..49).map(|i| (i / 7, i % 7))
+}
+
+/// Folds by gains that a law of the reference gives: with every level, or without centre, surrounds and LFE.
+fn by_law(c: &mut Case, r: &mut Rng, normalise: bool, quiet: bool) {
+    let mut laws = law(r);
+    let level = |db: f64| Db(if quiet { f64::NEG_INFINITY } else { db });
+    laws.downmix = Downmix { centre_db: level(-3.0), surround_db: level(-4.5), lfe_db: level(-6.0), normalise };
+    let gains = gains_of(&laws);
+    for (src, dst) in pairs() {
+        let matrix = format::width_matrix(FORMATS[src], FORMATS[dst], &laws);
+        width(c, src, dst, &gains, normalise, &matrix);
+        c.reached.extend(branches::fold(FORMATS[src].labels(), FORMATS[dst].labels(), &gains, normalise));
     }
 }
 
