@@ -180,7 +180,8 @@ mixer_plan_reply mixer_finish(mixer_plan plan, float *buffers, size_t buffers_le
 
 /* ---- A plan in use */
 
-/* How many entries of the area that a call is lent for its answer it has written, from the front on. */
+/* How many entries of the area that a call is lent for its answer it has written, from the front on; of mixer_all_sources, how many slots there
+ * are. */
 typedef struct {
     mixer_status status;
     size_t count;

@@ -46,7 +46,7 @@ fn adoption_answer(
     Answer::Accepted
 }
 
-// One pair: node n takes the cur of old node o. Requires what the tests leave.
+// One pair: node n takes the cur of old node o, and its own target is set again. Requires what the tests leave.
 fn adopt_pair(
     nodes: usize,
     node_floats: &mut [f32],
@@ -111,7 +111,8 @@ fn adopt_pairs(
     }
 }
 
-// Each new node of a pair (new, old) in `pairs` takes the cur of its old node and ramps to its own target again, over `ramp` samples.
+// Each new node of a pair (new, old) in `pairs` takes the cur of its old node and ramps to its own target again, over `ramp` samples. A pair that
+// names no node of its plan, or nodes of different len, is skipped.
 pub fn adopt(
     nodes: usize,
     node_floats: &mut [f32],

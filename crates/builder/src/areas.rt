@@ -6,7 +6,7 @@ ghost use lib.Seq.{sets};
 ghost use Rattle.plan.specs.Limits.{unitLimits};
 ghost use Rattle.builder.specs.Calls.{numbersFrom, silence};
 
-// n numbers from `from` on, stored from place `at` on.
+// n numbers from `from` on, stored from place `at` on. Requires numbers of buffers, and room for them.
 pub fn put_numbers(from: usize, n: usize, at: usize, indices: &mut [u32])
     requires { ⌜ (from + n ≤ unitLimits .buffers) × (at + n ≤ length (now indices)) ⌝ }
     ensures { λ _. ⌜ now (indices .exit) ≡ sets (now (indices .entry)) at (numbersFrom from n) ⌝ }
@@ -26,7 +26,7 @@ pub fn put_floats(values: &[f32], at: usize, area: &mut [f32])
     }
 }
 
-// The first n words.
+// The first n words, stored from place `at` on. Requires as many, and room for them.
 pub fn put_words(words: &[u32], n: usize, at: usize, area: &mut [u32])
     requires { ⌜ (n ≤ length (now words)) × (at + n ≤ length (now area)) ⌝ }
     ensures { λ _. ⌜ now (area .exit) ≡ sets (now (area .entry)) at (take n (now (words .entry))) ⌝ }
@@ -36,7 +36,7 @@ pub fn put_words(words: &[u32], n: usize, at: usize, area: &mut [u32])
     }
 }
 
-// Zeros in the first n places.
+// Zeros in the first n places. Requires as many.
 pub fn put_zeros(n: usize, area: &mut [f32])
     requires { ⌜ n ≤ length (now area) ⌝ }
     ensures { λ _. ⌜ now (area .exit) ≡ sets (now (area .entry)) 0 (replicate n silence) ⌝ }

@@ -154,7 +154,7 @@ impl PlanBuilder {
         }
     }
 
-    // A node at zero, set to the values over the ramp, so that it fades in.
+    // A node at zero, set to the values over the ramp: with one above 0 it fades in.
     pub fn node(
         plan: Plan,
         id: u32,
@@ -212,7 +212,7 @@ impl PlanBuilder {
         }
     }
 
-    // Zeroes the buffers. The plan is ready to run.
+    // Zeroes the buffers. What the steps name is left to the plan check.
     pub fn finish(plan: Plan, buffers: &mut [f32]) -> Grown
         ensures { λ r. ⌜ (r .answer ≡ finishAnswer unitLimits plan (length (now (buffers .entry)))) × (r .plan ≡ plan) × (now (buffers .exit) ≡ finishArea unitLimits plan (now (buffers .entry))) ⌝ }
     {

@@ -105,7 +105,8 @@ fn folds_to(label: u32, dst: u32, g: FoldGains) -> Targets
     }
 }
 
-// Column s of m with the label added at the gain x: to its entry where dst has the label, else through what it turns into.
+// Column s of m with the label added at the gain x: to its entry where dst has the label, else through what it turns into. Requires a label, a
+// format, and a column of at most 12.
 fn fold(
     label: u32,
     dst: u32,
@@ -134,7 +135,7 @@ fn fold(
     }
 }
 
-// Every label of src, each in its column.
+// Every label of src, each in its column. Requires that dst is a format.
 fn mapping(src: u32, dst: u32, g: FoldGains) -> Matrix
     requires { ⌜ dst < 7 ⌝ }
     ensures { λ r. ⌜ r .entries ≡ matrixOf src dst g ⌝ }
@@ -161,7 +162,7 @@ fn larger(a: f64, b: f64) -> f64
     if a < b { b } else { a }
 }
 
-// The sum of the magnitudes of the row that starts at an entry.
+// The sum of the magnitudes of the row that starts at an entry. Requires a row within the matrix.
 fn row_sum(m: Matrix, at: usize, columns: usize) -> f64
     requires { ⌜ at + columns ≤ 144 ⌝ }
     ensures { λ r. ⌜ r ≡ rowSum zero64 (take columns (drop at (m .entries))) ⌝ }
@@ -173,6 +174,7 @@ fn row_sum(m: Matrix, at: usize, columns: usize) -> f64
     sum
 }
 
+// The largest sum of a row. Requires at most 12 rows and columns.
 fn largest(m: Matrix, rows: usize, columns: usize) -> f64
     requires { ⌜ (rows ≤ 12) × (columns ≤ 12) ⌝ }
     ensures { λ r. ⌜ r ≡ largest zero64 columns rows (m .entries) ⌝ }
@@ -193,7 +195,8 @@ fn divided(mut m: Matrix, by: f64) -> Matrix
     m
 }
 
-// A mapping from 3.0 or wider into fewer channels, scaled so that no row sums to more than 1.
+// A mapping from 3.0 or wider into fewer channels, divided, where asked, by its largest row sum, if that is above 1. Requires at most 12 rows
+// and columns.
 fn normalised(m: Matrix, rows: usize, columns: usize, normalise: bool) -> Matrix
     requires { ⌜ (rows ≤ 12) × (columns ≤ 12) ⌝ }
     ensures { λ r. ⌜ r .entries ≡ normalised normalise rows columns (m .entries) ⌝ }
@@ -214,7 +217,7 @@ fn normalised(m: Matrix, rows: usize, columns: usize, normalise: bool) -> Matrix
     m
 }
 
-// The first n entries, as f32.
+// The first n entries, as f32. Requires as many, and room for them.
 fn put(m: Matrix, n: usize, out: &mut [f32])
     requires { ⌜ (n ≤ 144) × (n ≤ length (now out)) ⌝ }
     ensures { λ _. ⌜ now (out .exit) ≡ map narrowed (take n (m .entries)) ++ drop n (now (out .entry)) ⌝ }

@@ -1,4 +1,4 @@
--- The channel labels of SMPTE ST 2110-30 and ITU-R BS.2051, as the Rust has them, by number. Definitions only.
+-- The channel labels, which are strings in the Rust, by numbers of the port. Definitions only.
 use Prim.Native.Nat.{ℕ}
 
 abbrev pub M : ℕ

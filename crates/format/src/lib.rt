@@ -9,7 +9,7 @@ ghost use Rattle.format.specs.Labels.{noLabel};
 ghost use Rattle.format.specs.Formats.{channels, labelOf, indexOf, has, side};
 ghost use Rattle.format.specs.Balance.{finite, clamp, atMostOne, leftGain, rightGain, balanceGains, ofSide, gainsOf, balanceAnswer, balanceArea, widthIn, stereoMatrix};
 
-// The labels: left, right, centre, low-frequency effects, surround, side, rear, top front, top rear.
+// The labels: mono, left, right, centre, low-frequency effects, surround, side, rear, top front, top rear.
 pub const M: u32 = 0;
 
 pub const L: u32 = 1;
@@ -228,7 +228,7 @@ fn of_side(l: f32, r: f32, side: u32) -> f32
     1.0
 }
 
-// A gain for each of the format's n channels, by its side.
+// A gain for each of the format's n channels, by its side. Requires that n is their count, and room for them.
 fn put_gains(format: u32, left: f32, right: f32, n: usize, out: &mut [f32])
     requires { ⌜ (n ≡ channels format) × (n ≤ length (now out)) ⌝ }
     ensures { λ _. ⌜ now (out .exit) ≡ gainsOf left right format ++ drop n (now (out .entry)) ⌝ }

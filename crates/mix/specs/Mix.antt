@@ -1,4 +1,4 @@
--- What Gain, Matrix and Send do to the buffers, as document 01's section "Run" has it: one write after another, each of a whole buffer, sample
+-- What Gain, Matrix, Send, Clear and Output do, as document 01's section "Run" has it: one write after another, each of a whole buffer, sample
 -- by sample, from the buffers as they are then. Definitions only.
 use Prim.Native.Nat.{ℕ, suc, _+_, _*_, _≤_, _<_}
 use mathlib.Core.Path.{_≡_}

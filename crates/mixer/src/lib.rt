@@ -48,7 +48,7 @@ pub struct BufferReply {
     pub buffer: u32,
 }
 
-// How many entries of a lent area were written: output samples, the samples of a part, or inputs.
+// How many entries of a lent area were written: output samples, the samples of a part, or inputs; for all source lists, how many slots there are.
 #[repr(C)]
 pub struct CountReply {
     pub status: Status,

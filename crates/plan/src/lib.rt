@@ -201,7 +201,8 @@ fn check_counting(
     check_steps(plan, indices, ascending, &steps[..words])
 }
 
-// The plan check of a call that found out by itself whether one of its areas is too short. Requires that one is where it is one of these.
+// The plan check of a call that found out by itself whether one of its areas is too short. Requires that `short` is
+// true where one of these three lists is too short.
 pub fn check(plan: Plan, short: bool, indices: &[u32], node_words: &[u32], steps: &[u32]) -> Answer
     requires { ⌜ (short ≡ false → shortLists plan (now indices) (now «node_words») (now steps) ≡ false) ⌝ }
     ensures { λ r. ⌜ r ≡ checked plan short (now (indices .entry)) (now («node_words» .entry)) (now (steps .entry)) ⌝ }

@@ -181,7 +181,7 @@ fn spans_apart(src: Span, dst: Span) -> bool
         | (dst.start as usize + dst.len as usize <= src.start as usize)
 }
 
-// Requires spans within an index list that was tested, and one that ascends where it is said to.
+// Some buffer is in both spans. Requires spans within an index list that was tested, and one that ascends where it is said to.
 fn spans_meet(plan: Plan, indices: &[u32], ascending: bool, src: Span, dst: Span) -> bool
     requires { ⌜ IndexList plan (now indices) × Within (plan .indices) src × Within (plan .indices) dst × (ascending ≡ true → Ascending 1 (plan .indices) (now indices)) ⌝ }
     ensures { λ r. ⌜ r ≡ meet (named (now (indices .entry)) src) (named (now (indices .entry)) dst) ⌝ }

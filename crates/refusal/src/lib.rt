@@ -1,5 +1,5 @@
 // Why a call changed nothing: document 01's number of the reason, and the step of the plan.
-// Every call of the interface answers with these. `specs/Tests.antt` says which of several reasons answers.
+// Every call that can be refused answers with these. `specs/Tests.antt` says which of several reasons answers.
 ghost use mathlib.Core.Path.{_≡_};
 ghost use Rattle.refusal.specs.Tests.{refusal};
 

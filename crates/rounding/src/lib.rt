@@ -15,7 +15,7 @@ const SIGN_32: u64 = 0x8000_0000;
 
 const INFINITY_32: u64 = 0x7f80_0000;
 
-// The whole number nearest to m / u; of two that are as near, the even one.
+// The whole number nearest to m / u; of two that are as near, the even one. Requires an m below 2^53, and a u from 1 to 2^53.
 fn nearest(m: u64, u: u64) -> u64
     requires { ⌜ (m < 2 ^ 53) × (0 < u) × (u ≤ 2 ^ 53) ⌝ }
     ensures { λ r. ⌜ r ≡ closest m u ⌝ }

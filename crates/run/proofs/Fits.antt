@@ -1,4 +1,4 @@
--- What the plan check said of a step, as the sample loops ask for it: the buffers that its spans name, and the gains of its node.
+-- What the tests said of a step, as the sample loops ask for it: the buffers that its spans name, and the gains of its node.
 -- Assumes nothing.
 use mathlib.Core.Path.{_≡_, sym, ap, _∙_, subst}
 use mathlib.Core.Bool.{Bool, cond}

@@ -7,7 +7,7 @@ pub mod Firsts
 pub mod Setting
 -- the answers of the admission, and what an accepted run says
 pub mod Admission
--- what the plan check said of a step, as the sample loops ask for it
+-- what the tests said of a step, as the sample loops ask for it
 pub mod Fits
 -- how many samples a step writes
 pub mod Outputs

@@ -28,7 +28,8 @@ fn part(samples: &[f32], start: usize, len: usize) -> &[f32]
     &samples[start..end]
 }
 
-// For each input the place of its first entry; where it has none, what was there. Requires at most 512 entries.
+// For each input a place before which no entry is for it: that of its first entry, or what was there where it has none. Requires at most 512
+// entries.
 pub(crate) fn first_entries(directory: &[u32], firsts: &mut [u16; 256])
     requires { ⌜ (entries (now directory) ≤ maxEntries) × (length (now firsts) ≡ inputs) ⌝ }
     ensures { λ _. ⌜ Firsts (now (directory .entry)) (now (firsts .exit)) ⌝ }

@@ -69,7 +69,7 @@ fn end_block(floats: &mut [f32], words: &mut [u32], n: usize, block: usize)
     node::store(node.finish_block(block), floats, words, n);
 }
 
-// The buffers after a Gain. Requires what the plan check said of it.
+// The buffers after a Gain. Requires what the tests said of it.
 fn gain_buffers(
     plan: Plan,
     indices: &[u32],
@@ -95,7 +95,7 @@ fn gain_buffers(
     mix::gain(buffers, plan.block, from, to, cur, step, target, left);
 }
 
-// The buffers after a Matrix. Requires what the plan check said of it.
+// The buffers after a Matrix. Requires what the tests said of it.
 fn matrix_buffers(
     plan: Plan,
     indices: &[u32],
@@ -121,7 +121,7 @@ fn matrix_buffers(
     mix::matrix(buffers, plan.block, from, to, cur, step, target, left);
 }
 
-// The buffers after a Send, by the weights `w`. Requires what the plan check said of it.
+// The buffers after a Send, by the weights `w`. Requires what the tests said of it.
 fn send_buffers(
     plan: Plan,
     indices: &[u32],
@@ -143,7 +143,7 @@ fn send_buffers(
     mix::send(buffers, plan.block, from, to, w, g);
 }
 
-// Gain, and the end of its node's block. Requires what the plan check said of it.
+// Gain, and the end of its node's block. Requires what the tests said of it.
 pub fn run_gain(
     plan: Plan,
     indices: &[u32],
@@ -173,7 +173,7 @@ pub fn run_gain(
     end_block(floats, words, node as usize, plan.block);
 }
 
-// Matrix, and the end of its node's block. Requires what the plan check said of it.
+// Matrix, and the end of its node's block. Requires what the tests said of it.
 pub fn run_matrix(
     plan: Plan,
     indices: &[u32],
@@ -203,7 +203,7 @@ pub fn run_matrix(
     end_block(floats, words, node as usize, plan.block);
 }
 
-// Send, by the weights `w`, and the end of its node's block. Requires what the plan check said of it.
+// Send, by the weights `w`, and the end of its node's block. Requires what the tests said of it.
 pub fn run_send(
     plan: Plan,
     indices: &[u32],

@@ -179,7 +179,7 @@ pub fn run_block(
     ensures { λ r. ⌜ state (now (floats .exit)) (now (words .exit)) (now (buffers .exit)) (now (output .exit)) r
         ≡ runSteps (plan .block) (lookup (now (directory .entry)) (now (samples .entry))) (map (resolved (now (indices .entry)) (now (coefficients .entry))) (decoded (now (steps .entry)) (plan .steps))) (state (now (floats .entry)) (now (words .entry)) (now (buffers .entry)) (now (output .entry)) 0) ⌝ }
 {
-    // So that a Patch need not go through the entries of other inputs; without an entry there is nothing to go through.
+    // So that a Patch starts at the first entry of its input; an input without one has a place past the last entry.
     let mut firsts = [512u16; 256];
     first_entries(directory, &mut firsts);
     run_steps(

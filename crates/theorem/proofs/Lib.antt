@@ -1,5 +1,5 @@
 -- The two-list theorem: `two-lists` in TwoLists, and what follows for the recorder, `changes-listed` in Recorder. The others are its parts, in
--- the order in which each uses those before it.
+-- the order in which each uses those before it, and, beside it, Answers and the examples.
 
 -- tests joined by and, or
 pub mod Bools

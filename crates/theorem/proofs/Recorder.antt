@@ -33,7 +33,7 @@ module _ (f : Fixed) (h : Held) (out : List Float) where
   one-entry : (x : Inputs) → answer f h (run (x .directory) (x .samples) out) ≡ Accepted → journal f h (run (x .directory) (x .samples) out ∷ []) ≡ entryOf x ∷ []
   one-entry x e = ap (λ (t : Answer). outcome t (entryOf x ∷ []) (λ _. [])) e
 
-  -- inputs that are the same but for i, of which i is not among L
+  -- an input that is the same in both runs, as journals of one run have it
   carried-same : (x y : Inputs) (j c : ℕ) → SameInput f h out x y j c
       → (Absent n j c (entryOf x ∷ []) × Absent n j c (entryOf y ∷ []))
       ⊎ (Whole n j c (entryOf x ∷ []) × Whole n j c (entryOf y ∷ []) × (carried n j c (entryOf x ∷ []) ≡ carried n j c (entryOf y ∷ [])))

@@ -1,5 +1,5 @@
--- Demand 3, clause by clause. Above each definition stands the paper's text. The theorem is `two-lists` (proofs/TwoLists.antt); what it takes
--- for granted and what it claims is the record `Given` and the claim `SameOutput` here, and nothing else. Definitions only.
+-- Demand 3, clause by clause. Above each definition stands the paper's text. The theorem is `two-lists` (proofs/TwoLists.antt): it takes for granted
+-- the record `Given` and the premise `ListedCarryEqual`, claims `SameOutput`, and assumes nothing else. Definitions only.
 use Prim.Native.Nat.{ℕ, _+_, _<_}
 use mathlib.Core.Path.{_≡_}
 use mathlib.Core.Logic.{_⊎_}

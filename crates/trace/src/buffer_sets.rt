@@ -24,7 +24,7 @@ pub(crate) fn load(area: &[u64], b: u32) -> Set
     }
 }
 
-// Requires as `load`.
+// The set of one buffer, in place of its own. Requires as `load`.
 pub(crate) fn store(area: &mut [u64], b: u32, set: Set)
     requires { ⌜ b * 4 + 4 ≤ length (now area) ⌝ }
     ensures { λ _. ⌜ ((c i : ℕ) → sourcesOf (now (area .exit)) c i ≡ cond (eqb c b) (member set i) (sourcesOf (now (area .entry)) c i)) ⌝ }
