@@ -20,7 +20,7 @@ use Rattle.plan.specs.Words.{patchMap, gainMap, matrixMap}
 use Rattle.plan.specs.Check.{checked}
 use Rattle.builder.specs.Calls.{newAnswer}
 use Rattle.run.specs.Calls.{set}
-use Rattle.run.specs.Setting.{nodeOf, settingFloats, settingWords}
+use Rattle.setting.specs.Setting.{nodeOf, settingFloats, settingWords}
 use Rattle.trace.specs.Calls.{sourcesAnswer, sourcesArea}
 use Rattle.trace.specs.declared.Sources.the-variants as sources
 use Rattle.cases.specs.Numbers.{over, twoTo, halfTo, plusZero, minusZero, infinity, eighth, quarter, half, threeQuarters, one, two, three, five}

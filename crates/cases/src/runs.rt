@@ -139,7 +139,7 @@ pub fn ramped(block: usize, directory: &[u32]) {
 
 fn set(plan: Plan, values: &[f32], node_floats: &mut [f32], node_words: &mut [u32]) {
     if values.len() > 0 {
-        let answer = run::set_param(plan.nodes, plans::ID, values, 0, node_floats, node_words);
+        let answer = setting::set_param(plan.nodes, plans::ID, values, 0, node_floats, node_words);
         text::refused(answer);
     }
 }

@@ -10,7 +10,7 @@ use Rattle.refusal.specs.Numbers.{shortArea}
 use Rattle.refusal.specs.Tests.{Test, test, first, outcome, areaAfter}
 use Rattle.refusal.specs.declared.Answer.{Answer}
 use Rattle.refusal.specs.declared.Answer.the-variants.{Accepted}
-use Rattle.run.specs.Input.{lookup}
+use Rattle.input.specs.Input.{lookup}
 use Rattle.mixer.specs.declared.CountReply.{CountReply}
 use Rattle.mixer.specs.Replies.{counted, notCounted}
 

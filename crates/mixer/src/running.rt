@@ -11,8 +11,8 @@ ghost use mathlib.Core.Path.{_≡_};
 ghost use lib.ListN.{length};
 ghost use Rattle.plan.specs.Areas.{areas};
 ghost use Rattle.plan.specs.Check.{checkPlan};
-ghost use Rattle.run.specs.Input.{directoryBad};
-ghost use Rattle.run.specs.Setting.{settingAnswer, settingFloats, settingWords};
+ghost use Rattle.input.specs.Input.{directoryBad};
+ghost use Rattle.setting.specs.Setting.{settingAnswer, settingFloats, settingWords};
 ghost use Rattle.run.specs.Run.{given, state, processed, processAnswer};
 ghost use Rattle.adoption.specs.Adoption.{lent, adoptionAnswer, adoptionFloats, adoptionWords};
 ghost use Rattle.mixer.specs.Replies.{statusOf, ranReply};
@@ -55,7 +55,7 @@ pub extern "C" fn mixer_set_param(
     ensures floats { λ _. ⌜ now («node_floats» .exit) ≡ settingFloats (plan .nodes) id (now (values .entry)) ramp (now («node_floats» .entry)) (now («node_words» .entry)) ⌝ }
     ensures words { λ _. ⌜ now («node_words» .exit) ≡ settingWords (plan .nodes) id (now (values .entry)) ramp (now («node_floats» .entry)) (now («node_words» .entry)) ⌝ }
 {
-    status_of(run::set_param(plan.nodes, id, values, ramp, node_floats, node_words))
+    status_of(setting::set_param(plan.nodes, id, values, ramp, node_floats, node_words))
 }
 
 #[no_mangle]
@@ -103,7 +103,7 @@ pub extern "C" fn mixer_lookup(
     ensures reply { λ r. ⌜ r ≡ lookupReply (now (directory .entry)) (now (samples .entry)) input channel (length (now (part .entry))) ⌝ }
     ensures part { λ _. ⌜ now (part .exit) ≡ lookupArea (now (directory .entry)) (now (samples .entry)) input channel (now (part .entry)) ⌝ }
 {
-    let found = run::lookup(directory, samples, input, channel);
+    let found = input::lookup(directory, samples, input, channel);
     if part.len() < found.len() {
         return not_counted(Refusal::of(Refusal::SHORT_AREA));
     }
@@ -115,7 +115,7 @@ pub extern "C" fn mixer_lookup(
 pub extern "C" fn mixer_directory_bad(directory: &[u32], samples: usize) -> bool
     ensures { λ r. ⌜ r ≡ directoryBad (now (directory .entry)) samples ⌝ }
 {
-    run::directory_bad(directory, samples)
+    input::directory_bad(directory, samples)
 }
 
 // Of the plans only their counts of nodes are used.

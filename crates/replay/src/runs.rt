@@ -20,7 +20,7 @@ fn set(
     let nodes = data::size(record, 15);
     let id = word(record, 17);
     let ramp = word(record, 18);
-    let answer = run::set_param(nodes, id, values, ramp, floats, node_words);
+    let answer = setting::set_param(nodes, id, values, ramp, floats, node_words);
     compare::answer(record, answer) && nodes_left(words, record, 3, floats, node_words)
 }
 
@@ -313,7 +313,7 @@ pub fn adopt(words: &[u32], record: &[u32]) -> bool {
 
 fn lookup_in(words: &[u32], record: &[u32], samples: &mut [f32]) -> bool {
     areas::load_floats(words, record, 1, samples);
-    let found = run::lookup(
+    let found = input::lookup(
         area(words, record, 0),
         samples,
         word(record, 11),
@@ -331,6 +331,6 @@ pub fn lookup(words: &[u32], record: &[u32]) -> bool {
 
 // Areas: the directory. Numbers: how many samples, 1 where it is bad.
 pub fn directory_bad(words: &[u32], record: &[u32]) -> bool {
-    let bad = run::directory_bad(area(words, record, 0), data::size(record, 7));
+    let bad = input::directory_bad(area(words, record, 0), data::size(record, 7));
     compare::accepted(record) && compare::yes(b"directory", word(record, 9), bad)
 }

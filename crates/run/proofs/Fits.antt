@@ -27,8 +27,7 @@ use Rattle.plan.proofs.Spans.{length-named, named-below, used-src, used-dst}
 use Rattle.mix.specs.Samples.{silence, put}
 use Rattle.mix.specs.Mix.{gainAt, Inside, AllInside, Buffers, Values}
 use Rattle.mix.specs.Mix as mix
-use Rattle.run.specs.Input.{patched}
-use Rattle.run.specs.Run.{State}
+use Rattle.run.specs.Run.{State, patched}
 use Rattle.run.specs.Loops.{Fit, FitStep, NodeFit}
 
 -- ---- buffers

@@ -13,7 +13,7 @@ use Rattle.mix.specs.Mix.{NotIn, used}
 use Rattle.mix.proofs.Put.{put-other}
 use Rattle.mix.proofs.Laws.{not-first, gained-other, rows-other, sends-other, cleared-other, appended-past}
 use Rattle.plan.specs.Resolved.{Resolved, patch, gain, matrix, clear, send, output}
-use Rattle.run.specs.Input.{lookup}
+use Rattle.input.specs.Input.{lookup}
 use Rattle.run.specs.Run.{Given, State, stepped, runSteps, stepsOfRun, admission, processed}
 use Rattle.run.proofs.Answers.{accepted-runs, refused-keeps}
 use Rattle.run.proofs.States.{SameLengths, run-lengths}

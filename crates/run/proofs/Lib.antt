@@ -1,12 +1,7 @@
 -- Laws that belong to no one function, for the crates above too.
 
--- the channel lookup and the directory, and the first entry of each input
-pub mod Input
-pub mod Firsts
--- what a setting's answer says, and what the call leaves
-pub mod Setting
 -- the answers of the admission, and what an accepted run says
-pub mod Admission
+pub mod Admitted
 -- what the tests said of a step, as the sample loops ask for it
 pub mod Fits
 -- how many samples a step writes

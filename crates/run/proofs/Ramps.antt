@@ -24,13 +24,13 @@ use Rattle.node.proofs.Left.{left-set, left-finish}
 use Rattle.node.proofs.Areas.{id-stored, left-stored, word-other, length-stored-words}
 use Rattle.plan.proofs.Accepted.{accepted-room}
 use Rattle.plan.specs.Resolved.{Resolved, patch, gain, matrix, clear, send, output}
-use Rattle.run.specs.Input.{lookup}
-use Rattle.run.specs.Setting.{nodeOf, settingWords}
+use Rattle.input.specs.Input.{lookup}
+use Rattle.setting.specs.Setting.{nodeOf, settingWords}
 use Rattle.run.specs.Run.{Given, State, stepped, runSteps, finished, admission, processed}
 use Rattle.run.specs.Calls.{Fixed, Held, Call, set, run, givenTo, start, answer, after, afterAll, runs, NotSet, stepsOfPlan, uses}
 use Rattle.run.proofs.Answers.{accepted-runs, refused-keeps}
-use Rattle.run.proofs.Setting.{node-named, node-only, settable, words-accepted, words-refused}
-use Rattle.run.proofs.Admission.{areas-of, admitted}
+use Rattle.setting.proofs.Setting.{node-named, node-only, settable, words-accepted, words-refused}
+use Rattle.run.proofs.Admitted.{areas-of, admitted}
 
 -- node n of the words: its id is i, and r samples are left
 pub record Left (n i r : ℕ) (words : List ℕ) : Type 0 where

@@ -21,12 +21,12 @@ use Rattle.plan.specs.Sound.{stepsOf}
 use Rattle.plan.specs.Resolved.{Resolved, patch, gain, matrix, clear, send, output}
 use Rattle.plan.proofs.Exact.{accepted-sound}
 use Rattle.plan.proofs.Accepted.{accepted-room}
-use Rattle.run.specs.Input.{lookup}
+use Rattle.input.specs.Input.{lookup}
 use Rattle.run.specs.Run.{Given, State, stepped, runSteps, finished, stepsOfRun, admission, processed}
 use Rattle.run.specs.Calls.{uses}
 use Rattle.run.proofs.Answers.{accepted-runs, refused-keeps}
 use Rattle.run.proofs.States.{NodesBelow}
-use Rattle.run.proofs.Admission.{areas-of, admitted}
+use Rattle.run.proofs.Admitted.{areas-of, admitted}
 use Rattle.run.proofs.Ready.{below}
 
 module _ (count m : ℕ) where

@@ -12,7 +12,7 @@ use Rattle.refusal.specs.declared.Answer.{Answer}
 use Rattle.refusal.specs.declared.Answer.the-variants.{Accepted}
 use Rattle.plan.specs.declared.Plan.{Plan}
 use Rattle.plan.specs.Resolved.{Resolved, patch, gain, matrix, clear, send, output, resolvedSteps}
-use Rattle.run.specs.Setting.{settingAnswer, settingFloats, settingWords}
+use Rattle.setting.specs.Setting.{settingAnswer, settingFloats, settingWords}
 use Rattle.run.specs.Run.{Given, given, State, state, admission, processed}
 
 -- the plan's record, and its areas that no call writes

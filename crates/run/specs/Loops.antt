@@ -1,11 +1,10 @@
--- What the contracts of the private functions cite: the channels that a step appends to the output, the first entries of a directory, and what
--- the steps take for granted.
+-- What the contracts of the private functions cite: the channels that a step appends to the output, and what the steps take for granted.
 -- Definitions only.
 use Prim.Native.Nat.{ℕ, _+_, _*_, _≤_, _<_}
 use mathlib.Core.Path.{_≡_}
 use mathlib.Core.Bool.{false}
 use mathlib.Core.List.{List}
-use lib.ListN.{length, getD}
+use lib.ListN.{length}
 use lib.Ieee.{Float}
 use Rattle.lists.specs.Parts.{part, upto}
 use Rattle.node.specs.Sizes.{maxValues}
@@ -15,19 +14,11 @@ use Rattle.node.specs.Areas.{Room, nodeAt, someBad}
 use Rattle.plan.specs.declared.Plan.{Plan}
 use Rattle.plan.specs.declared.Span.{Span}
 use Rattle.plan.specs.declared.Step.{Step}
-use Rattle.plan.specs.Limits.{maxBlock, inputs, unitLimits}
+use Rattle.plan.specs.Limits.{maxBlock, unitLimits}
 use Rattle.plan.specs.Sound.{Within, Inside, Narrow, Apart, IndexList}
 pub use Rattle.plan.specs.Loops.{channels}
 unfoldable pub use Rattle.plan.specs.Loops.{channelsOf}
-use Rattle.run.specs.Input.{entries, entryWord}
 use Rattle.run.specs.Run.{State}
-
--- ---- the directory
-
--- for each input a place before which no entry is for it
-pub record Firsts (directory firsts : List ℕ) : Type 0 where
-  pub all : length firsts ≡ inputs
-  pub before : (input i : ℕ) → i < entries directory → i < getD firsts input 0 → entryWord directory i 0 ≡ input → ⊥
 
 -- ---- what the tests said
 

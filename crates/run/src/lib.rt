@@ -1,19 +1,12 @@
-// A run of a plan over one block, and a setting of a node. Ports `Plan::process` and `Plan::set_param` of src/engine/plan.rs. Both calls are
-// total, and a refused one changes nothing.
-mod directory;
+// A run of a plan over one block. Ports `Plan::process` of src/engine/plan.rs. The call is total, and a refused one changes nothing.
+mod admission;
 mod nodes;
-mod settings;
 mod steps;
-mod tests;
 
-pub use directory::directory_bad;
-pub use directory::lookup;
 use plan::Plan;
 use refusal::Answer;
 use refusal::Refusal;
-pub use settings::set_param;
 use steps::run_block;
-use tests::admission;
 ghost use mathlib.Core.Path.{_≡_};
 ghost use Rattle.run.specs.Run.{given, state, processed, processAnswer};
 
@@ -42,7 +35,7 @@ pub fn process(
     ensures buffers { λ _. ⌜ now (buffers .exit) ≡ processed (given plan (now (indices .entry)) (now (coefficients .entry)) (now (steps .entry)) (now (directory .entry)) (now (samples .entry))) (state (now («node_floats» .entry)) (now («node_words» .entry)) (now (buffers .entry)) (now (output .entry)) 0) .buffers ⌝ }
     ensures output { λ _. ⌜ now (output .exit) ≡ processed (given plan (now (indices .entry)) (now (coefficients .entry)) (now (steps .entry)) (now (directory .entry)) (now (samples .entry))) (state (now («node_floats» .entry)) (now («node_words» .entry)) (now (buffers .entry)) (now (output .entry)) 0) .output ⌝ }
 {
-    let answer = admission(
+    let answer = admission::admission(
         plan,
         indices,
         coefficients,

@@ -1,6 +1,4 @@
 // The steps of a run, one after another.
-use crate::directory::first_entries;
-use crate::directory::lookup_first;
 use crate::nodes::run_gain;
 use crate::nodes::run_matrix;
 use crate::nodes::run_send;
@@ -19,9 +17,10 @@ ghost use Rattle.plan.specs.Sound.{Within, IndexList, Passes};
 ghost use Rattle.plan.specs.Resolved.{resolved};
 ghost use Rattle.mix.specs.Samples.{put};
 ghost use Rattle.mix.specs.Mix.{cleared, appended, Inside};
-ghost use Rattle.run.specs.Input.{maxEntries, entries, lookup, patched};
-ghost use Rattle.run.specs.Run.{state, stepped, runSteps};
-ghost use Rattle.run.specs.Loops.{channels, channelsOf, Fit, FitStep, Firsts};
+ghost use Rattle.input.specs.Input.{maxEntries, entries, lookup};
+ghost use Rattle.input.specs.Loops.{Firsts};
+ghost use Rattle.run.specs.Run.{state, stepped, runSteps, patched};
+ghost use Rattle.run.specs.Loops.{channels, channelsOf, Fit, FitStep};
 
 // Patch: the first block samples of a channel's part, or +0 where it counts as absent. Requires that the buffer lies within the area.
 fn patch(buffers: &mut [f32], block: usize, dst: usize, part: &[f32])
@@ -89,7 +88,7 @@ fn run_step(
             channel,
             dst,
         } => {
-            let part = lookup_first(directory, firsts, samples, input, channel);
+            let part = input::lookup_first(directory, firsts, samples, input, channel);
             patch(buffers, plan.block, dst as usize, part);
         }
         Step::Gain { node, src, dst } => {
@@ -181,7 +180,7 @@ pub fn run_block(
 {
     // So that a Patch starts at the first entry of its input; an input without one has a place past the last entry.
     let mut firsts = [512u16; 256];
-    first_entries(directory, &mut firsts);
+    input::first_entries(directory, &mut firsts);
     run_steps(
         plan,
         indices,

@@ -47,7 +47,7 @@ fn setting(
     words: &mut [u32],
 ) {
     let before = of_nodes(&floats[..], &words[..]);
-    let answer = run::set_param(nodes, id, &[0.5], ramp, floats, words);
+    let answer = setting::set_param(nodes, id, &[0.5], ramp, floats, words);
     let after = of_nodes(&floats[..], &words[..]);
     if let Answer::Refused(r) = answer {
         line(from, what, r, before, after);

@@ -24,7 +24,7 @@ fn set(
     at(from);
     text::put(what);
     text::put(b"\n");
-    run::set_param(nodes, id, values, ramp, floats, words)
+    setting::set_param(nodes, id, values, ramp, floats, words)
 }
 
 // The singer's panner, at a balance.

@@ -21,8 +21,7 @@ use Rattle.mix.specs.Samples.{sample, put}
 use Rattle.mix.specs.Mix.{gained, rows, sends, cleared}
 use Rattle.mix.proofs.Laws.{not-used, gained-other, rows-other, sends-other, cleared-other, appended-at, appended-before}
 use Rattle.mix.proofs.Put.{put-other}
-use Rattle.run.specs.Input.{patched}
-use Rattle.run.specs.Run.{State, stepped, runSteps, outputChannels}
+use Rattle.run.specs.Run.{State, stepped, runSteps, outputChannels, patched}
 use Rattle.run.proofs.States.{step-lengths}
 use Rattle.trace.specs.Sources.{union, spread, joins, behind}
 use Rattle.trace.specs.Clean.{written, all, cleanStep, cleanFrom}

@@ -24,11 +24,11 @@ use Rattle.mix.specs.Samples.{sampled}
 use Rattle.mix.specs.Mix.{added, weighted, sent, columns, weighs}
 use Rattle.builder.specs.Calls.{newAnswer, buffersIndices, coefficientsArea, nodeFloatsArea, nodeWordsArea, stepArea, finishArea}
 use Rattle.builder.specs.Built.{Call, step}
-use Rattle.run.specs.Input.{entryWord, entryFor, entries}
+use Rattle.input.specs.Input.{entryWord, entryFor, entries}
 use Rattle.run.specs.Run.{processed}
-use Rattle.run.specs.Setting.{nodeOf, settingFloats, settingWords}
+use Rattle.setting.specs.Setting.{nodeOf, settingFloats, settingWords}
 use Rattle.run.specs.Calls as run
-use Rattle.run.proofs.Input.{lookup-absent}
+use Rattle.input.proofs.Input.{lookup-absent}
 use Rattle.sets.specs.Sets.{sift}
 use Rattle.trace.specs.Sources.{sourceList}
 use Rattle.trace.specs.Calls.{cleanAnswer}

@@ -15,8 +15,7 @@ use Rattle.node.specs.Areas.{nodeAt, nodes}
 use Rattle.node.proofs.Areas.{getD-nodes}
 use Rattle.plan.specs.Resolved.{Resolved, output}
 use Rattle.mix.specs.Samples.{sample}
-use Rattle.run.specs.Input.{patched}
-use Rattle.run.specs.Run.{State, runSteps, outputChannels}
+use Rattle.run.specs.Run.{State, runSteps, outputChannels, patched}
 use Rattle.run.specs.Calls.{Fixed, Held, Call, stepsOfPlan}
 use Rattle.trace.specs.Sources.{noSources, behind}
 use Rattle.trace.specs.Clean.{noneWritten, cleanFrom}

@@ -29,11 +29,11 @@ use Rattle.plan.specs.Sound.{Within, Inside, IndexList, Each, stepsOf}
 use Rattle.plan.proofs.Accepted.{span-length, span-below}
 use Rattle.plan.proofs.Exact.{accepted-sound}
 use Rattle.mix.specs.Samples.{sample}
-use Rattle.run.specs.Input.{lookup}
+use Rattle.input.specs.Input.{lookup}
 use Rattle.run.specs.Run.{Given, State, runSteps, outputChannels, processed}
 use Rattle.run.specs.Calls.{Fixed, Held, Call, set, run, givenTo, start, answer, after, stepsOfPlan}
 use Rattle.run.proofs.Answers.{accepted-runs}
-use Rattle.run.proofs.Admission.{areas-of, admitted, output-needs}
+use Rattle.run.proofs.Admitted.{areas-of, admitted, output-needs}
 use Rattle.run.proofs.States.{run-lengths}
 use Rattle.run.proofs.Ready.{refused-run, refused-set}
 use Rattle.theorem.specs.Journal.{Entry, setting, ran, journal, total, written}

@@ -13,7 +13,7 @@ use lib.ListN.{length}
 use borrow.Author.Tests.{ltb-true, ltb-false, le-leb, lt-leb}
 use Rattle.node.specs.declared.Node.{Node}
 use Rattle.plan.specs.Resolved.{Resolved}
-use Rattle.run.specs.Input.{lookup}
+use Rattle.input.specs.Input.{lookup}
 use Rattle.theorem.specs.Journal.{Entry, setting, ran, Setting, total, settingsFrom, NoRampSet}
 use Rattle.theorem.proofs.Nodes.{AtRest, nodesAfter, nodes-rest, nodesSet, set-rest}
 use Rattle.theorem.proofs.Moments.{Moment, moment, momentAt}

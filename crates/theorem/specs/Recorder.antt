@@ -11,7 +11,7 @@ use Rattle.lists.specs.Parts.{part}
 use Rattle.trace.specs.Sources.{sourceList}
 use Rattle.trace.specs.Calls.{tracedSteps, cleanAnswer}
 use Rattle.trace.specs.declared.CleanAnswer.the-variants.{Clean}
-use Rattle.run.specs.Input.{lookup}
+use Rattle.input.specs.Input.{lookup}
 use Rattle.run.specs.Run.{processed}
 use Rattle.run.specs.Calls.{Fixed, Held, run, givenTo, start, answer}
 

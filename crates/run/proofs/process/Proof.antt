@@ -3,8 +3,8 @@ use mathlib.Core.Path.{_≡_, refl, sym, _∙_}
 use lib.Seq.{length-take-le}
 use Rattle.refusal.specs.declared.Answer.the-variants.{Accepted}
 use Rattle.run.specs.Run.{Given, State, given, state, admission}
-use Rattle.run.proofs.Input.{directory-good}
-use Rattle.run.proofs.Admission.{Admitted, admitted}
+use Rattle.input.proofs.Input.{directory-good}
+use Rattle.run.proofs.Admitted.{Admitted, admitted}
 use Rattle.run.proofs.Answers.{returned-refused, returned-accepted}
 use borrow.Author.Needs.{needs}
 use Rattle.run.proofs.process.Statement.{statement}

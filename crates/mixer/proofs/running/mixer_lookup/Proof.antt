@@ -12,7 +12,7 @@ use Rattle.refusal.specs.Numbers.{shortArea}
 use Rattle.refusal.specs.Tests.{refusal, outcome, areaAfter}
 use Rattle.refusal.specs.declared.Refusal.{Refusal}
 use Rattle.refusal.specs.declared.Answer.the-variants.{Accepted, Refused}
-use Rattle.run.specs.Input.{lookup}
+use Rattle.input.specs.Input.{lookup}
 use Rattle.mixer.specs.declared.CountReply.{CountReply}
 use Rattle.mixer.specs.Replies.{counted, notCounted}
 use Rattle.mixer.specs.Lookup.{partReply, partArea}

@@ -10,8 +10,7 @@ use Rattle.plan.specs.Check.{named}
 use Rattle.plan.specs.Sound.{Within}
 use Rattle.mix.specs.Samples.{put}
 use Rattle.mix.specs.Mix.{sends}
-use Rattle.run.specs.Input.{patched}
-use Rattle.run.specs.Run.{stepped}
+use Rattle.run.specs.Run.{stepped, patched}
 use Rattle.run.proofs.Fits.{step-as, node-fit, weights-count, buffer-inside}
 use Rattle.run.proofs.Outputs.{output-room}
 use borrow.Author.Needs.{needs}

@@ -2,7 +2,7 @@
 use mathlib.Core.Path.{refl, sym, _∙_}
 use Prim.Native.Nat.{_-_}
 use native.Mathlib.Omega.{arith}
-use Rattle.run.specs.Input.{lookup}
+use Rattle.input.specs.Input.{lookup}
 use Rattle.run.specs.Run.{State, state}
 use Rattle.run.proofs.Going.{Going, going-starts, going-fits, going-on, going-bad, going-ends}
 use borrow.Author.Needs.{needs}

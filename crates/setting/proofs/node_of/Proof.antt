@@ -1,0 +1,60 @@
+-- `run::settings::node_of` meets its contract. Assumes nothing.
+use mathlib.Core.Path.{_≡_, refl, sym, _∙_}
+use Prim.Native.Nat.{_≤_}
+use native.Mathlib.Omega.{arith}
+use borrow.Author.Tests.{eq-eqb, ne-eqb}
+use Rattle.plan.proofs.Scans.{above}
+use Rattle.setting.specs.Setting.{nodeOf}
+use Rattle.setting.proofs.Setting.{node-here, node-before, node-none}
+use borrow.Author.Needs.{needs}
+use Rattle.setting.proofs.node_of.Statement.{statement}
+use Rattle.setting.proofs.node_of.Tie as tie
+
+abbrev Inv-loop : tie.InvT-loop
+Inv-loop words n id i₀ i = (i ≤ n) × (nodeOf words n id ≡ nodeOf words i id)
+
+abbrev μ-loop : tie.MeasureT-loop
+μ-loop words n id i₀ i = i
+
+loop-holds : tie.Need-loop-holds Inv-loop μ-loop
+loop-holds c = (omega arith, refl)
+
+sub-i : tie.Need-sub-i Inv-loop μ-loop
+sub-i c = search needs
+
+mul-if1 : tie.Need-mul-if1 Inv-loop μ-loop
+mul-if1 c = search needs
+
+mul-if1-2 : tie.Need-mul-if1-2 Inv-loop μ-loop
+mul-if1-2 c = search needs
+
+shared-slice-read-if1 : tie.Need-shared-slice-read-if1 Inv-loop μ-loop
+shared-slice-read-if1 c = search needs
+
+returns : tie.Need-returns Inv-loop μ-loop
+returns c = sym (c .before .before .before .loop .inv .1 ∙ node-here _ _ (above _ (c .before .before .loop-test .taken)) (eq-eqb _ _ (c .if1 .taken)))
+
+loop-less : tie.Need-loop-less Inv-loop μ-loop
+loop-less c = search needs
+
+loop-again : tie.Need-loop-again Inv-loop μ-loop
+loop-again c = (omega arith, c .before .before .before .loop .inv .1 ∙ node-before _ _ (above _ (c .before .before .loop-test .taken)) (ne-eqb _ _ (c .if1 .left)))
+
+returns-2 : tie.Need-returns-2 Inv-loop μ-loop
+returns-2 c = sym (c .before .loop .inv .1 ∙ node-none _ _ (omega arith))
+
+pub node-of-spec : {M : Type 1} → statement M
+node-of-spec =
+    tie.close
+    (tie.spec
+    Inv-loop
+    μ-loop
+    loop-holds
+    sub-i
+    mul-if1
+    mul-if1-2
+    shared-slice-read-if1
+    returns
+    loop-less
+    loop-again
+    returns-2)

@@ -1,0 +1,2 @@
+-- What the crate's contracts cite: a setting.
+pub mod Setting

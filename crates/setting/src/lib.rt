@@ -1,0 +1,74 @@
+// A setting of a node. Ports `Plan::set_param` of src/engine/plan.rs. The call is total, and a refused one changes nothing.
+use node::Node;
+use plan::Plan;
+use refusal::Answer;
+use refusal::Refusal;
+ghost use mathlib.Core.Path.{_≡_};
+ghost use Prim.Native.Nat.{_*_, _≤_};
+ghost use lib.ListN.{length};
+ghost use Rattle.node.specs.Sizes.{nodeWords};
+ghost use Rattle.setting.specs.Setting.{nodeOf, settingAnswer, settingFloats, settingWords};
+
+// The tests, of `count` nodes in an area of `floats` floats, in their order. It writes nothing.
+fn setting_answer(count: usize, id: u32, ramp: u32, floats: usize, words: &[u32]) -> Answer
+    ensures { λ r. ⌜ r ≡ settingAnswer count id ramp floats (now (words .entry)) ⌝ }
+{
+    if count > Plan::MAX_NODES {
+        return Answer::Refused(Refusal::of(Refusal::OVER_LIMIT));
+    }
+    if plan::shorter(floats, count, Node::FLOATS) | plan::shorter(words.len(), count, Node::WORDS) {
+        return Answer::Refused(Refusal::of(Refusal::SHORT_AREA));
+    }
+    if node::any_bad(words, count) {
+        return Answer::Refused(Refusal::of(Refusal::BAD_NODE));
+    }
+    if plan::id_twice(words, count) {
+        return Answer::Refused(Refusal::of(Refusal::ID_TAKEN));
+    }
+    if ramp > Node::MAX_RAMP {
+        return Answer::Refused(Refusal::of(Refusal::LONG_RAMP));
+    }
+    if !plan::id_among(words, count, id) {
+        return Answer::Refused(Refusal::of(Refusal::UNKNOWN_ID));
+    }
+    Answer::Accepted
+}
+
+// The node of an id among the first n. Requires the words of all n.
+fn node_of(words: &[u32], n: usize, id: u32) -> usize
+    requires { ⌜ n * nodeWords ≤ length (now words) ⌝ }
+    ensures { λ r. ⌜ r ≡ nodeOf (now (words .entry)) n id ⌝ }
+{
+    let mut i = n;
+    while i > 0 {
+        i -= 1;
+        if words[i * Node::WORDS] == id {
+            return i;
+        }
+    }
+    0
+}
+
+// Ramps the node of the id, among the `nodes` nodes of the lent areas, to `values` over `ramp` samples.
+pub fn set_param(
+    nodes: usize,
+    id: u32,
+    values: &[f32],
+    ramp: u32,
+    node_floats: &mut [f32],
+    node_words: &mut [u32],
+) -> Answer
+    ensures answer { λ r. ⌜ r ≡ settingAnswer nodes id ramp (length (now («node_floats» .entry))) (now («node_words» .entry)) ⌝ }
+    ensures floats { λ _. ⌜ now («node_floats» .exit) ≡ settingFloats nodes id (now (values .entry)) ramp (now («node_floats» .entry)) (now («node_words» .entry)) ⌝ }
+    ensures words { λ _. ⌜ now («node_words» .exit) ≡ settingWords nodes id (now (values .entry)) ramp (now («node_floats» .entry)) (now («node_words» .entry)) ⌝ }
+{
+    match setting_answer(nodes, id, ramp, node_floats.len(), &node_words[..]) {
+        Answer::Refused(r) => Answer::Refused(r),
+        Answer::Accepted => {
+            let n = node_of(&node_words[..], nodes, id);
+            let node = node::load(&node_floats[..], &node_words[..], n);
+            node::store(node.set(values, ramp), node_floats, node_words, n);
+            Answer::Accepted
+        }
+    }
+}
