@@ -17,7 +17,8 @@ use Rattle.run.specs.Run.{processed}
 use Rattle.run.specs.Calls.{Fixed, Held, run, givenTo, start, answer, after, stepsOfPlan}
 use Rattle.theorem.specs.Journal.{Entry, ran, journal, Absent, Whole, carried}
 use Rattle.theorem.specs.Statement.{Channel}
-use Rattle.theorem.specs.Recorder.{Inputs, block, SameInput, blockAt, Changes, IsClean, listFor}
+use Rattle.theorem.specs.Traced.{IsClean, listFor}
+use Rattle.theorem.specs.Recorder.{Inputs, block, SameInput, blockAt, Changes}
 use Rattle.theorem.proofs.Block.{Within}
 use Rattle.theorem.proofs.Pairs.{SamePlan, written-same}
 use Rattle.theorem.proofs.CleanPlans.{clean-sound, clean-steps, all-listed}
@@ -40,8 +41,8 @@ module _ (f : Fixed) (h : Held) (out : List Float) where
   carried-same x y j c (inl p) = inl ((p .0, tt), (p .1, tt))
   carried-same x y j c (inr p) = inr ((p .0, tt), (p .1, tt), ap (λ (u : List Float). u ++ []) (p .2))
 
-  module _ (clean : IsClean f h out) (s q : ℕ) (ch : Channel (stepsOfPlan f) s q) (i : ℕ) (change : Changes f h out i q) where
-    unlisted-same : has (listFor f h out s) i ≡ false → blockAt f h out (change .one) q ≡ blockAt f h out (change .other) q
+  module _ (clean : IsClean f h) (s q : ℕ) (ch : Channel (stepsOfPlan f) s q) (i : ℕ) (change : Changes f h out i q) where
+    unlisted-same : has (listFor f s) i ≡ false → blockAt f h out (change .one) q ≡ blockAt f h out (change .other) q
     unlisted-same e =
         let x = change .one in
         let y = change .other in
@@ -51,21 +52,21 @@ module _ (f : Fixed) (h : Held) (out : List Float) where
         let split : stepsOfPlan f ≡ before ++ output src s ∷ after = ch .split in
         let same : SamePlan f f (before ++ output src s ∷ after) = record { steps₁ = split; steps₂ = split; count = refl; buffers = refl } in
         let is-clean : cleanFrom noneWritten (before ++ output src s ∷ after) ≡ true = ap (cleanFrom noneWritten) (sym split) ∙ clean-steps f (h .words) clean in
-        let within : Within (behind s noSources (before ++ output src s ∷ after)) (has (listFor f h out s)) =
-        subst (λ (xs : List Resolved). Within (behind s noSources xs) (has (listFor f h out s))) split (all-listed f (h .words) clean s) in
+        let within : Within (behind s noSources (before ++ output src s ∷ after)) (has (listFor f s)) =
+        subst (λ (xs : List Resolved). Within (behind s noSources xs) (has (listFor f s))) split (all-listed f (h .words) clean s) in
         let es = one-entry x (change .one-accepted) in
         let fs = one-entry y (change .other-accepted) in
         let equal = written-same f f before src s after (ch .c) (ch .inside) same is-clean h h (run (x .directory) (x .samples) out ∷ []) (run (y .directory) (y .samples) out ∷ [])
         (clean-sound f (h .words) clean .block-least) refl
-        (rw (es, fs) refl) (rw (es, fs) refl) (λ differ. absurd (differ refl)) (has (listFor f h out s)) within
-        (rw (es, fs) (λ j c p. carried-same x y j c (change .same-but j c (λ z. true≢false (sym p ∙ ap (has (listFor f h out s)) z ∙ e))))) in
+        (rw (es, fs) refl) (rw (es, fs) refl) (λ differ. absurd (differ refl)) (has (listFor f s)) within
+        (rw (es, fs) (λ j c p. carried-same x y j c (change .same-but j c (λ z. true≢false (sym p ∙ ap (has (listFor f s)) z ∙ e))))) in
         let parts = rw (es, fs, ← ch .place) at (equal .1) in
         sym (append-nil (blockAt f h out x q)) ∙ parts ∙ append-nil (blockAt f h out y q)
 
     -- The corollary.
-    pub changes-listed : has (listFor f h out s) i ≡ true
-    changes-listed = go (has (listFor f h out s) i) refl
+    pub changes-listed : has (listFor f s) i ≡ true
+    changes-listed = go (has (listFor f s) i) refl
       where
-        go : (t : Bool) → has (listFor f h out s) i ≡ t → has (listFor f h out s) i ≡ true
+        go : (t : Bool) → has (listFor f s) i ≡ t → has (listFor f s) i ≡ true
         go true e = e
         go false e = absurd (change .differ (unlisted-same e))

@@ -8,9 +8,6 @@ use lib.ListN.{length, take}
 use lib.Ieee.{Float}
 use Rattle.refusal.specs.declared.Answer.the-variants.{Accepted}
 use Rattle.lists.specs.Parts.{part}
-use Rattle.trace.specs.Sources.{sourceList}
-use Rattle.trace.specs.Calls.{tracedSteps, cleanAnswer}
-use Rattle.trace.specs.declared.CleanAnswer.the-variants.{Clean}
 use Rattle.input.specs.Input.{lookup}
 use Rattle.run.specs.Run.{processed}
 use Rattle.run.specs.Calls.{Fixed, Held, run, givenTo, start, answer}
@@ -43,10 +40,3 @@ module _ (f : Fixed) (h : Held) (output : List Float) where
     pub other-accepted : answer f h (run (other .directory) (other .samples) output) ≡ Accepted
     pub same-but : (j c : ℕ) → (j ≡ i → ⊥) → SameInput one other j c
     pub differ : blockAt one q ≡ blockAt other q → ⊥
-
-  -- the plan is clean, by the clean answer; and the list that the trace gives for slot s
-  abbrev pub IsClean : Type 0
-  IsClean = cleanAnswer (f .plan) (f .indices) (h .words) (f .steps) ≡ Clean
-
-  abbrev pub listFor : ℕ → List ℕ
-  listFor s = sourceList s (tracedSteps (f .plan) (f .indices) (f .steps))

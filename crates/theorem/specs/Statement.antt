@@ -8,12 +8,10 @@ use mathlib.Core.List.{List, _∷_, _++_}
 use lib.ListN.{length}
 use Rattle.plan.specs.Check.{has}
 use Rattle.plan.specs.Resolved.{Resolved, output}
-use Rattle.trace.specs.Sources.{sourceList}
-use Rattle.trace.specs.Calls.{tracedSteps, cleanAnswer}
-use Rattle.trace.specs.declared.CleanAnswer.the-variants.{Clean}
 use Rattle.run.specs.Run.{outputChannels}
 use Rattle.run.specs.Calls.{Call, stepsOfPlan}
 use Rattle.theorem.specs.Builds.{Build, Finished, acceptedCalls, fixed, held, NoRampBuilt}
+use Rattle.theorem.specs.Traced.{IsClean, listFor}
 use Rattle.theorem.specs.Journal.{Entry, journal, total, settingsFrom, written, Absent, Whole, carried, NoRampSet}
 
 -- "A channel of s is one place in the src span of one Output to slot s": channel c of it. Its block lies at place q of the output area, after the
@@ -51,7 +49,7 @@ module _ (l : Lists) where
 
   -- the list that the trace of the first build gives for slot s
   abbrev pub listBehind : ℕ → List ℕ
-  listBehind s = sourceList s (tracedSteps (fixed (l .first) .plan) (fixed (l .first) .indices) (fixed (l .first) .steps))
+  listBehind s = listFor (fixed (l .first)) s
 
   -- "A channel of an input carries equal samples when the lookup's part counts as absent in every accepted run of both lists, or in none, and then
   -- the first block samples of each part, joined in list order, are … the same in both."
@@ -67,7 +65,7 @@ module _ (l : Lists) where
     -- "built twice by the same builder calls": "The builds share their accepted builder calls, in order, all but the block length"
     pub same-calls : acceptedCalls (l .first) ≡ acceptedCalls (l .second)
     -- "a clean plan", by the clean answer of the first build
-    pub clean : cleanAnswer (fixed (l .first) .plan) (fixed (l .first) .indices) (held (l .first) .words) (fixed (l .first) .steps) ≡ Clean
+    pub clean : IsClean (fixed (l .first)) (held (l .first))
     -- "the accepted runs of each add up to T samples"
     pub same-total : total a firstJournal ≡ total b secondJournal
     -- "and the accepted settings are alike, in the same order at the same samples"
