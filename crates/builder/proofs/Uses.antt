@@ -11,10 +11,6 @@ use Rattle.plan.specs.Areas.{shorter}
 use Rattle.builder.specs.Growth.{over, add, growsOver, growsPast, buffersGrowth, coefficientsGrowth, nodeGrowth, stepGrowth}
 use Rattle.builder.specs.Calls.{lentIndices, lentCoefficients, lentNodes, lentSteps}
 
--- code that works a disjunction out from its parts
-pub or-is : {a b x y r : Bool} → a ≡ x → b ≡ y → (a || b) ≡ r → (x || y) ≡ r
-or-is p q h = rw (p, q) at h
-
 -- an area of `length` places that n more than `count` reach past
 past : (length count n : ℕ) → shorter length (count + n) 1 ≡ over length count (add n)
 past length count n = ap (ltb length) (mul-one (count + n))

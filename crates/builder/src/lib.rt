@@ -1,7 +1,7 @@
 // The builder calls, which lay out a plan in lent areas. Ports `PlanBuilder` of src/engine/plan.rs. Each call is total: it tests what
 // docs/DECISIONS.md, point 2, lists, and a refused one changes nothing.
+mod answers;
 mod areas;
-mod tests;
 
 pub use areas::put_floats;
 use node::Node;
@@ -64,7 +64,7 @@ impl PlanBuilder {
         };
         Grown {
             plan,
-            answer: tests::new_answer(block),
+            answer: answers::new_answer(block),
         }
     }
 
@@ -74,7 +74,7 @@ impl PlanBuilder {
         ensures plan { λ r. ⌜ r .plan ≡ planAfter (buffersAnswer unitLimits plan n (length (now (indices .entry)))) plan (buffersGrowth n) ⌝ }
         ensures indices { λ r. ⌜ now (indices .exit) ≡ buffersIndices unitLimits plan n (now (indices .entry)) ⌝ }
     {
-        match tests::buffers_answer(plan, n, indices.len()) {
+        match answers::buffers_answer(plan, n, indices.len()) {
             Answer::Refused(r) => Spanned {
                 plan,
                 answer: SpanAnswer::Refused(r),
@@ -116,7 +116,7 @@ impl PlanBuilder {
         ensures { λ r. ⌜ r ≡ bufferNumber plan span i (now (indices .entry)) ⌝ }
     {
         let start = span.start as usize;
-        let end = tests::smaller(plan.indices, indices.len());
+        let end = answers::smaller(plan.indices, indices.len());
         if end <= start {
             return NumberAnswer::Refused(Refusal::of(Refusal::SHORT_AREA));
         }
@@ -132,7 +132,7 @@ impl PlanBuilder {
         ensures plan { λ r. ⌜ r .plan ≡ planAfter (coefficientsAnswer unitLimits plan (length (now (values .entry))) (length (now (area .entry)))) plan (coefficientsGrowth (length (now (values .entry)))) ⌝ }
         ensures area { λ r. ⌜ now (area .exit) ≡ coefficientsArea unitLimits plan (now (values .entry)) (now (area .entry)) ⌝ }
     {
-        match tests::coefficients_answer(plan, values.len(), area.len()) {
+        match answers::coefficients_answer(plan, values.len(), area.len()) {
             Answer::Refused(r) => Spanned {
                 plan,
                 answer: SpanAnswer::Refused(r),
@@ -168,7 +168,7 @@ impl PlanBuilder {
         ensures floats { λ r. ⌜ now (floats .exit) ≡ nodeFloatsArea unitLimits plan id (now (values .entry)) ramp (now (floats .entry)) (now (words .entry)) ⌝ }
         ensures words { λ r. ⌜ now (words .exit) ≡ nodeWordsArea unitLimits plan id (now (values .entry)) ramp (now (floats .entry)) (now (words .entry)) ⌝ }
     {
-        match tests::node_answer(plan, id, values.len(), ramp, floats.len(), &words[..]) {
+        match answers::node_answer(plan, id, values.len(), ramp, floats.len(), &words[..]) {
             Answer::Refused(r) => Numbered {
                 plan,
                 answer: NumberAnswer::Refused(r),
@@ -192,13 +192,13 @@ impl PlanBuilder {
         ensures plan { λ r. ⌜ r .plan ≡ planAfter (stepAnswer unitLimits plan (now («record» .entry)) (length (now (steps .entry)))) plan (stepGrowth (recordLength (now («record» .entry)))) ⌝ }
         ensures steps { λ r. ⌜ now (steps .exit) ≡ stepArea unitLimits plan (now («record» .entry)) (now (steps .entry)) ⌝ }
     {
-        match tests::step_answer(plan, record, steps.len()) {
+        match answers::step_answer(plan, record, steps.len()) {
             Answer::Refused(r) => Grown {
                 plan,
                 answer: Answer::Refused(r),
             },
             Answer::Accepted => {
-                let n = tests::record_length(record);
+                let n = answers::record_length(record);
                 let at = plan.words;
                 areas::put_words(record, n, at, steps);
                 let mut grown = plan;
@@ -216,7 +216,7 @@ impl PlanBuilder {
     pub fn finish(plan: Plan, buffers: &mut [f32]) -> Grown
         ensures { λ r. ⌜ (r .answer ≡ finishAnswer unitLimits plan (length (now (buffers .entry)))) × (r .plan ≡ plan) × (now (buffers .exit) ≡ finishArea unitLimits plan (now (buffers .entry))) ⌝ }
     {
-        match tests::finish_answer(plan, buffers.len()) {
+        match answers::finish_answer(plan, buffers.len()) {
             Answer::Refused(r) => Grown {
                 plan,
                 answer: Answer::Refused(r),

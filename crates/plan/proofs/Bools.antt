@@ -1,4 +1,5 @@
--- A disjunction that is false or true, a conjunction that is true, and a test of equality the other way round. Assumes nothing.
+-- A disjunction that is false or true, one that code works out from its parts, a conjunction that is true, and a test of equality the other way
+-- round. Assumes nothing.
 use mathlib.Core.Path.{_≡_, refl, sym}
 use mathlib.Core.Bool.{Bool, true, false, _||_, _&&_, true≢false}
 use mathlib.Core.Logic.{_⊎_, inl, inr}
@@ -13,6 +14,9 @@ or-none false b e = (refl, e)
 pub or-some : (a b : Bool) → (a || b) ≡ true → (a ≡ true) ⊎ (b ≡ true)
 or-some true b e = inl refl
 or-some false b e = inr e
+
+pub or-is : {a b x y r : Bool} → a ≡ x → b ≡ y → (a || b) ≡ r → (x || y) ≡ r
+or-is p q e = cc
 
 pub and-both : (a b : Bool) → (a && b) ≡ true → (a ≡ true) × (b ≡ true)
 and-both true b e = (refl, e)

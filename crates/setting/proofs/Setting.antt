@@ -81,10 +81,6 @@ pub words-enough : {count floats words : ℕ} → Early count floats words → c
 words-enough {count} {floats} {words} e =
     ltb-false words (count * nodeWords) (or-none (shorter floats count nodeFloats) (shorter words count nodeWords) (e .short) .1)
 
--- two tests that a call worked out
-pub or-is : {a b x y r : Bool} → a ≡ x → b ≡ y → (a || b) ≡ r → (x || y) ≡ r
-or-is p q e = cc
-
 -- ---- what an accepted setting says
 pub record Settable (count id ramp floats : ℕ) (words : List ℕ) : Type 0 where
   pub nodes : count ≤ unitLimits .nodes

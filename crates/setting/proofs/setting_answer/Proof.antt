@@ -5,7 +5,8 @@ use lib.ListN.{length}
 use Rattle.refusal.specs.declared.Answer.the-variants.{Refused}
 use Rattle.plan.specs.Areas.{shorter}
 use Rattle.setting.specs.Setting.{settingAnswer}
-use Rattle.setting.proofs.Setting.{Early, or-is, words-enough}
+use Rattle.setting.proofs.Setting.{Early, words-enough}
+use Rattle.plan.proofs.Bools.{or-is}
 use borrow.Author.Needs.{needs}
 use Rattle.setting.proofs.setting_answer.Statement.{statement}
 use Rattle.setting.proofs.setting_answer.Tie as tie

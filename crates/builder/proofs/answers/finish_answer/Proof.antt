@@ -3,8 +3,8 @@ use mathlib.Core.Path.{sym, ap, _∙_}
 use Rattle.refusal.specs.declared.Answer.the-variants.{Refused}
 use Rattle.builder.specs.Calls.{finishAnswer}
 use borrow.Author.Needs.{needs}
-use Rattle.builder.proofs.tests.finish_answer.Statement.{statement}
-use Rattle.builder.proofs.tests.finish_answer.Tie as tie
+use Rattle.builder.proofs.answers.finish_answer.Statement.{statement}
+use Rattle.builder.proofs.answers.finish_answer.Tie as tie
 
 bad-block-requires : tie.Need-bad-block-requires
 bad-block-requires c κs = search needs

@@ -3,8 +3,8 @@ use mathlib.Core.Path.{sym, ap, _∙_}
 use Rattle.refusal.specs.declared.Answer.the-variants.{Refused}
 use Rattle.builder.specs.Calls.{newAnswer}
 use borrow.Author.Needs.{needs}
-use Rattle.builder.proofs.tests.new_answer.Statement.{statement}
-use Rattle.builder.proofs.tests.new_answer.Tie as tie
+use Rattle.builder.proofs.answers.new_answer.Statement.{statement}
+use Rattle.builder.proofs.answers.new_answer.Tie as tie
 
 bad-block-requires : tie.Need-bad-block-requires
 bad-block-requires c κs = search needs

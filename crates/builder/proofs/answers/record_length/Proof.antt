@@ -7,8 +7,8 @@ use lib.ListN.{length, getD}
 use Rattle.plan.specs.Words.{fields}
 use Rattle.builder.specs.Calls.{recordLength}
 use borrow.Author.Needs.{needs}
-use Rattle.builder.proofs.tests.record_length.Statement.{statement}
-use Rattle.builder.proofs.tests.record_length.Tie as tie
+use Rattle.builder.proofs.answers.record_length.Statement.{statement}
+use Rattle.builder.proofs.answers.record_length.Tie as tie
 
 none : (w : List ℕ) → length w ≡ 0 → 0 ≡ recordLength w
 none [] e = refl

@@ -7,8 +7,8 @@ use Rattle.builder.specs.Growth.{growsOver, growsPast, coefficientsGrowt
 use Rattle.builder.specs.Calls.{coefficientsAnswer, lentCoefficients}
 use Rattle.builder.proofs.Uses.{coefficients-over, coefficients-past}
 use borrow.Author.Needs.{needs}
-use Rattle.builder.proofs.tests.coefficients_answer.Statement.{statement}
-use Rattle.builder.proofs.tests.coefficients_answer.Tie as tie
+use Rattle.builder.proofs.answers.coefficients_answer.Statement.{statement}
+use Rattle.builder.proofs.answers.coefficients_answer.Tie as tie
 
 over-requires : tie.Need-over-requires
 over-requires c κs = search needs

@@ -5,10 +5,11 @@ use Rattle.refusal.specs.declared.Answer.the-variants.{Refused}
 use Rattle.plan.specs.Limits.{unitLimits}
 use Rattle.builder.specs.Growth.{growsOver, growsPast, buffersGrowth}
 use Rattle.builder.specs.Calls.{buffersAnswer, lentIndices}
-use Rattle.builder.proofs.Uses.{or-is, buffers-over, buffers-past}
+use Rattle.builder.proofs.Uses.{buffers-over, buffers-past}
+use Rattle.plan.proofs.Bools.{or-is}
 use borrow.Author.Needs.{needs}
-use Rattle.builder.proofs.tests.buffers_answer.Statement.{statement}
-use Rattle.builder.proofs.tests.buffers_answer.Tie as tie
+use Rattle.builder.proofs.answers.buffers_answer.Statement.{statement}
+use Rattle.builder.proofs.answers.buffers_answer.Tie as tie
 
 over-requires : tie.Need-over-requires
 over-requires c κs = search needs

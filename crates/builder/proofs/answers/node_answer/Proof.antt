@@ -9,13 +9,13 @@ use Rattle.refusal.specs.declared.Answer.the-variants.{Refused}
 use Rattle.node.specs.Sizes.{nodeFloats, nodeWords}
 use Rattle.plan.specs.Limits.{unitLimits}
 use Rattle.plan.specs.Areas.{shorter}
-use Rattle.plan.proofs.Bools.{or-none}
+use Rattle.plan.proofs.Bools.{or-none, or-is}
 use Rattle.builder.specs.Growth.{growsOver, growsPast, nodeGrowth}
 use Rattle.builder.specs.Calls.{nodeAnswer, lentNodes}
-use Rattle.builder.proofs.Uses.{or-is, node-over, node-past}
+use Rattle.builder.proofs.Uses.{node-over, node-past}
 use borrow.Author.Needs.{needs}
-use Rattle.builder.proofs.tests.node_answer.Statement.{statement}
-use Rattle.builder.proofs.tests.node_answer.Tie as tie
+use Rattle.builder.proofs.answers.node_answer.Statement.{statement}
+use Rattle.builder.proofs.answers.node_answer.Tie as tie
 
 -- past the tests 5 and 2
 early : (c : tie.Else2) → (growsOver unitLimits (c .before .before .before .before .before .before .args .plan) nodeGrowth ≡ false)

@@ -4,8 +4,8 @@ use mathlib.Core.Path.{sym}
 use native.Mathlib.Omega.{arith}
 use borrow.Author.Tests.{lt-ltb}
 use Rattle.builder.proofs.Numbers.{less-sum}
-use Rattle.builder.proofs.tests.over.Statement.{statement}
-use Rattle.builder.proofs.tests.over.Tie as tie
+use Rattle.builder.proofs.answers.over.Statement.{statement}
+use Rattle.builder.proofs.answers.over.Tie as tie
 
 returns : tie.Need-returns
 returns c =

@@ -9,8 +9,8 @@ use Rattle.builder.specs.Growth.{growsOver, growsPast, over, add, stepGr
 use Rattle.builder.specs.Calls.{recordLength, lentSteps, unreadable, wide, stepAnswer}
 use Rattle.builder.proofs.Uses.{step-past}
 use borrow.Author.Needs.{needs}
-use Rattle.builder.proofs.tests.step_answer.Statement.{statement}
-use Rattle.builder.proofs.tests.step_answer.Tie as tie
+use Rattle.builder.proofs.answers.step_answer.Statement.{statement}
+use Rattle.builder.proofs.answers.step_answer.Tie as tie
 
 -- past the tests 5 and 2
 early : (c : tie.Else2) → (growsOver unitLimits (c .before .before .before .before .before .before .args .plan) (stepGrowth (recordLength (c .before .before .before .before .before .before .args .words .now))) ≡ false)
