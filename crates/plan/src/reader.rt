@@ -108,15 +108,15 @@ fn output_at(words: &[u32], at: usize) -> Step
     }
 }
 
-// 2 to the 11th: the bits below it, 0 to 10, have a field.
-const FIELD_BITS: u32 = 2048;
+// Bit 11, which has no field: the bits below it, 0 to 10, have one.
+const NO_FIELD: u32 = 2048;
 
 const MAX_FIELDS: usize = 11;
 
 pub fn field_count(map: u32) -> usize
     ensures { λ r. ⌜ (r ≡ fields map) × (r ≤ fieldBits) ⌝ }
 {
-    u32::count_ones(map % FIELD_BITS) as usize
+    u32::count_ones(map % NO_FIELD) as usize
 }
 
 // A record with this map is longer than the words that are left.
