@@ -31,7 +31,7 @@ use Rattle.trace.specs.Clean.{clean}
 use Rattle.trace.specs.Calls.{tracedSteps, traceAnswer, sourcesAnswer, sourcesArea, allTraced, allAnswer, countsOf, listsOf, allCounts, allLists, cleanAnswer}
 use Rattle.trace.specs.declared.Sources.the-variants as sources
 use Rattle.trace.specs.declared.CleanAnswer.the-variants as answers
-use Rattle.trace.proofs.Handed.{lists-at, lists-kept}
+use Rattle.trace.proofs.Lists.{lists-at, lists-kept}
 
 -- ---- `output_sources`
 pub record Listed (p : Plan) (slot : ℕ) (indices words steps area : List ℕ) (n : ℕ) : Type 0 where

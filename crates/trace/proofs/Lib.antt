@@ -10,6 +10,6 @@ pub mod Examples
 -- of the calls
 mod Stored
 mod Walking
-mod Handed
+mod Lists
 mod Outcomes
 mod Cleaning

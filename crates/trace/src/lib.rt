@@ -11,7 +11,7 @@ use refusal::Answer;
 use refusal::Refusal;
 use slots::LIST_PLACES;
 use slots::SLOT_WORDS;
-use slots::hand_out;
+use slots::write_lists;
 use walk::behind;
 ghost use mathlib.Core.Path.{_≡_};
 ghost use lib.ListN.{length};
@@ -93,7 +93,7 @@ pub fn all_sources(
     if (counts.len() < n) | (lists.len() < n * LIST_PLACES) {
         return Sources::Refused(Refusal::of(Refusal::SHORT_AREA));
     }
-    hand_out(&sets, n, counts, lists);
+    write_lists(&sets, n, counts, lists);
     Sources::Listed(n as u32)
 }
 

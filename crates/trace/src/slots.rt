@@ -30,7 +30,7 @@ pub(crate) fn with_slot(count: usize, step: Step) -> usize
 
 // The count and the list of each of the first n slots, from their sets. Requires at most as many as a plan can have, the words of all, and
 // room in both areas.
-pub(crate) fn hand_out(area: &[u64], n: usize, counts: &mut [u32], lists: &mut [u16])
+pub(crate) fn write_lists(area: &[u64], n: usize, counts: &mut [u32], lists: &mut [u16])
     requires { ⌜ (n ≤ slots) × (length (now area) ≡ slotWords) × (n ≤ length (now counts)) × (n * inputs ≤ length (now lists)) ⌝ }
     ensures { λ _. ⌜ (now (counts .exit) ≡ countsOf (listAt (now (area .entry))) n (now (counts .entry))) × (now (lists .exit) ≡ listsOf (listAt (now (area .entry))) n (now (lists .entry))) ⌝ }
 {

@@ -107,8 +107,9 @@ fn join(plan: Plan, indices: &[u32], area: &[u64], slots: &mut [u64], step: Step
     store(slots, slot, set);
 }
 
-// The sets of the slots after all steps, from those that both areas hold, which change step by step; and the count of the slots. Requires what
-// the tests said of the plan and its steps, and the words of all buffers and of all slots.
+// The sets of the slots after all steps, from those that both areas hold, which change step by step; and the count of the slots. What the sets of
+// the buffers are then is left open: nothing reads them. Requires what the tests said of the plan and its steps, and the words of all buffers and
+// of all slots.
 fn walk(plan: Plan, indices: &[u32], steps: &[u32], area: &mut [u64], slots: &mut [u64]) -> usize
     requires { ⌜ Tested plan (now indices) (now steps) × (length (now area) ≡ areaWords) × (length (now slots) ≡ slotWords) ⌝ }
     ensures count { λ r. ⌜ r ≡ slotCount (map (resolved (now (indices .entry)) []) (decoded (now (steps .entry)) (plan .steps))) ⌝ }

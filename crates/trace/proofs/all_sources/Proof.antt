@@ -52,11 +52,11 @@ returns-2 c =
     let b = c .before .before .before .behind in
     all-refused (a .plan) (a .indices .now) (a .node-words .now) (a .steps .now) (a .counts .now) (a .lists .now) _ _ (all-by-2 (a .plan) (a .indices .now) (a .node-words .now) (a .steps .now) (a .counts .now) (a .lists .now) (fine (c .before .before .before .before .before .before)) (b .result) (b .ensures .0) (c .before .if1 .taken)) (c .of .ensures)
 
-slice-aggregate-hand-out : tie.Need-slice-aggregate-hand-out
-slice-aggregate-hand-out c = search needs
+slice-aggregate-write-lists : tie.Need-slice-aggregate-write-lists
+slice-aggregate-write-lists c = search needs
 
-hand-out-requires : tie.Need-hand-out-requires
-hand-out-requires c κs =
+write-lists-requires : tie.Need-write-lists-requires
+write-lists-requires c κs =
     let a = c .before .before .before .before .before .before .before .before .before .before .before .before .before .before .before .before .args in
     let b = c .before .before .before .before .before .behind in
     let r = room (a .plan) (a .indices .now) (a .node-words .now) (a .steps .now) (a .counts .now) (a .lists .now) (b .result) (c .before .before .before .if1 .left) in
@@ -77,7 +77,7 @@ returns-3 c =
     let xs = tracedSteps (a .plan) (a .indices .now) (a .steps .now) in
     let b = c .before .before .before .before .before .before .before .before .before .before .behind in
     let area = b .last .1 .1 .1 .0 in
-    let h = c .before .before .before .before .hand-out in
+    let h = c .before .before .before .before .write-lists in
     all-listed (a .plan) (a .indices .now) (a .node-words .now) (a .steps .now) (a .counts .now) (a .lists .now) (listAt area) (set-listed area xs (zeros-or slotWords area (λ s i. behind s noSources xs i) (b .ensures .1)))
     (all-by-none (a .plan) (a .indices .now) (a .node-words .now) (a .steps .now) (a .counts .now) (a .lists .now) (fine (c .before .before .before .before .before .before .before .before .before .before .before .before .before)) (b .result) (b .ensures .0) (c .before .before .before .before .before .before .before .before .if1 .left)) (b .result) (b .ensures .0)
     (h .last .1 .1 .0) (h .last .1 .1 .1 .0) (h .ensures .0) (h .ensures .1)
@@ -96,8 +96,8 @@ all-sources-spec =
     mul-if1
     of-requires
     returns-2
-    slice-aggregate-hand-out
-    hand-out-requires
+    slice-aggregate-write-lists
+    write-lists-requires
     cast-t30
     same-length
     same-length-2

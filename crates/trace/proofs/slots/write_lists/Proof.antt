@@ -1,4 +1,4 @@
--- `trace::slots::hand_out` meets its contract. Assumes nothing.
+-- `trace::slots::write_lists` meets its contract. Assumes nothing.
 use mathlib.Core.Path.{ap, _∙_}
 use Prim.Native.Nat.{_+_, _-_, _*_, _<_, _≤_}
 use native.Mathlib.Omega.{arith}
@@ -11,25 +11,25 @@ use Rattle.sets.specs.Sets.{members}
 use Rattle.sets.proofs.Laws.{length-members-le}
 use Rattle.plan.specs.Limits.{inputs}
 use Rattle.trace.specs.Loops.{listAt}
-use Rattle.trace.proofs.Handed.{Handing, handing-starts, handing-counts, handing-lists, handing-on, handing-ends, lent-store}
-use Rattle.trace.proofs.slots.hand_out.Statement.{statement}
-use Rattle.trace.proofs.slots.hand_out.Tie as tie
+use Rattle.trace.proofs.Lists.{Writing, writing-starts, writing-counts, writing-lists, writing-on, writing-ends, lent-store}
+use Rattle.trace.proofs.slots.write_lists.Statement.{statement}
+use Rattle.trace.proofs.slots.write_lists.Tie as tie
 
 abbrev Inv-loop : tie.InvT-loop
-Inv-loop area n counts₀ lists₀ s₀ counts lists s = Handing (listAt area) n counts₀ lists₀ counts lists s
+Inv-loop area n counts₀ lists₀ s₀ counts lists s = Writing (listAt area) n counts₀ lists₀ counts lists s
 
 abbrev μ-loop : tie.MeasureT-loop
 μ-loop area n counts₀ lists₀ s₀ counts lists s = n - s
 
 -- room for the slot's count, and for its list
 counts-room : (c : tie.In-loop Inv-loop μ-loop) → c .before .loop .s < length (c .before .loop .counts)
-counts-room c = omega (arith, c .loop-test .taken, handing-counts (c .before .loop .inv), c .before .before .before .before .before .pre .2)
+counts-room c = omega (arith, c .loop-test .taken, writing-counts (c .before .loop .inv), c .before .before .before .before .before .pre .2)
 
 lists-room : (c : tie.In-loop Inv-loop μ-loop) → c .before .loop .s * inputs + inputs ≤ length (c .before .loop .lists)
-lists-room c = omega (arith, c .loop-test .taken, handing-lists (c .before .loop .inv), c .before .before .before .before .before .pre .3)
+lists-room c = omega (arith, c .loop-test .taken, writing-lists (c .before .loop .inv), c .before .before .before .before .before .pre .3)
 
 loop-holds : tie.Need-loop-holds Inv-loop μ-loop
-loop-holds c = let a = c .before .before .before .args in handing-starts (listAt (a .area .now)) (a .n) (a .counts .now) (a .lists .now)
+loop-holds c = let a = c .before .before .before .args in writing-starts (listAt (a .area .now)) (a .n) (a .counts .now) (a .lists .now)
 
 cast-load : tie.Need-cast-load Inv-loop μ-loop
 cast-load c = omega (arith, c .loop-test .taken, c .before .before .before .before .before .pre .0)
@@ -77,20 +77,20 @@ loop-again c =
     let k = length (l .lists) - at in
     let set = c .before .before .before .before .before .load in
     let count = c .before .before .before .before .count in
-    handing-on (l .inv) (c .before .before .before .before .before .before .loop-test .taken) (count .result) (count .ensures ∙ ap (λ (x : Set). length (members x)) (set .ensures)) _
+    writing-on (l .inv) (c .before .before .before .before .before .before .loop-test .taken) (count .result) (count .ensures ∙ ap (λ (x : Set). length (members x)) (set .ensures)) _
     (ap (putMid at k (l .lists)) (c .before .before .list .ensures) ∙ lent-store (l .lists) at (members (set .result)) (omega (arith, length-members-le (set .result), lists-room (c .before .before .before .before .before .before))) ∙ ap (λ (x : Set). sets (l .lists) at (members x)) (set .ensures))
 
 same-length : tie.Need-same-length Inv-loop μ-loop
-same-length c = handing-counts (c .before .loop .inv)
+same-length c = writing-counts (c .before .loop .inv)
 
 same-length-2 : tie.Need-same-length-2 Inv-loop μ-loop
-same-length-2 c = handing-lists (c .before .loop .inv)
+same-length-2 c = writing-lists (c .before .loop .inv)
 
 returns : tie.Need-returns Inv-loop μ-loop
-returns c = handing-ends (c .before .loop .inv) (c .loop-test .left)
+returns c = writing-ends (c .before .loop .inv) (c .loop-test .left)
 
-pub hand-out-spec : {M : Type 1} → statement M
-hand-out-spec =
+pub write-lists-spec : {M : Type 1} → statement M
+write-lists-spec =
     tie.close
     (tie.spec
     Inv-loop

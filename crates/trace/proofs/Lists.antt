@@ -50,31 +50,31 @@ module _ (list : ℕ → List ℕ) where
       getD-sets i (listsOf list n l) (n * inputs) (list n) 0 (o n (omega arith)) ∙ lists-kept n l i (λ s h. o s (omega arith))
 
   -- the first s slots are done
-  pub record Handing (n : ℕ) (counts₀ lists₀ counts lists : List ℕ) (s : ℕ) : Type 0 where
+  pub record Writing (n : ℕ) (counts₀ lists₀ counts lists : List ℕ) (s : ℕ) : Type 0 where
     pub turns : s ≤ n
     pub numbers : counts ≡ countsOf list s counts₀
     pub inputs-behind : lists ≡ listsOf list s lists₀
 
-  pub handing-starts : (n : ℕ) (counts lists : List ℕ) → Handing n counts lists counts lists 0
-  handing-starts n counts lists = record { turns = omega arith; numbers = refl; inputs-behind = refl }
+  pub writing-starts : (n : ℕ) (counts lists : List ℕ) → Writing n counts lists counts lists 0
+  writing-starts n counts lists = record { turns = omega arith; numbers = refl; inputs-behind = refl }
 
-module _ {list : ℕ → List ℕ} {n : ℕ} {counts₀ lists₀ counts lists : List ℕ} {s : ℕ} (c : Handing list n counts₀ lists₀ counts lists s) where
-  pub handing-counts : length counts ≡ length counts₀
-  handing-counts = ap length (c .numbers) ∙ length-upto (λ s. length (list s)) s counts₀
+module _ {list : ℕ → List ℕ} {n : ℕ} {counts₀ lists₀ counts lists : List ℕ} {s : ℕ} (c : Writing list n counts₀ lists₀ counts lists s) where
+  pub writing-counts : length counts ≡ length counts₀
+  writing-counts = ap length (c .numbers) ∙ length-upto (λ s. length (list s)) s counts₀
 
-  pub handing-lists : length lists ≡ length lists₀
-  handing-lists = ap length (c .inputs-behind) ∙ length-lists list s lists₀
+  pub writing-lists : length lists ≡ length lists₀
+  writing-lists = ap length (c .inputs-behind) ∙ length-lists list s lists₀
 
-  pub handing-on : s < n → (count : ℕ) → count ≡ length (list s) → (lists′ : List ℕ) → lists′ ≡ sets lists (s * inputs) (list s)
-      → Handing list n counts₀ lists₀ (set counts s count) lists′ (s + 1)
-  handing-on h count e lists′ q =
+  pub writing-on : s < n → (count : ℕ) → count ≡ length (list s) → (lists′ : List ℕ) → lists′ ≡ sets lists (s * inputs) (list s)
+      → Writing list n counts₀ lists₀ (set counts s count) lists′ (s + 1)
+  writing-on h count e lists′ q =
       record {
         turns = omega arith;
         numbers = rw (e, c .numbers) (upto-more (λ s. length (list s)) s counts₀);
         inputs-behind = q ∙ ap (λ (l : List ℕ). sets l (s * inputs) (list s)) (c .inputs-behind) ∙ ap (λ (k : ℕ). listsOf list k lists₀) (sym (add-one s));
       }
 
-  pub handing-ends : n ≤ s → (counts ≡ countsOf list n counts₀) × (lists ≡ listsOf list n lists₀)
-  handing-ends h =
+  pub writing-ends : n ≤ s → (counts ≡ countsOf list n counts₀) × (lists ≡ listsOf list n lists₀)
+  writing-ends h =
       let e : s ≡ n = omega (arith, c .turns) in
       (c .numbers ∙ ap (λ (k : ℕ). countsOf list k counts₀) e, c .inputs-behind ∙ ap (λ (k : ℕ). listsOf list k lists₀) e)
