@@ -14,16 +14,14 @@ static int failures;
 static uint32_t indices[8], node_words[6], steps[32];
 static float coefficients[4], node_floats[144], buffers[16];
 
-static mixer_plan built(void)
+/* A plan with its buffers, a coefficient and a node. */
+static mixer_plan tables(void)
 {
     static const float half[] = {0.5f}, weight[] = {1.0f};
-    static const uint32_t patch[] = {MIXER_PATCH, 255, 3, 0}, gain[] = {MIXER_GAIN, 0, 0, 1, 1, 2}, bad[] = {MIXER_GAIN, 0};
-    static const uint32_t output[] = {MIXER_OUTPUT, 0, 1, 1};
     const mixer_span none = {0, 0}, both = {0, 2};
     mixer_plan p = mixer_new(2).plan;
     mixer_span_reply s;
     mixer_node_reply n;
-    mixer_plan_reply r;
     REFUSED(mixer_new(1025).status, MIXER_BLOCK_LENGTH, 0);
     CHECK(mixer_new(1025).plan.block == 1025 && p.block == 2 && p.buffers == 0);
     s = mixer_buffers(p, 3, indices, 8);
@@ -48,6 +46,15 @@ static mixer_plan built(void)
     n = mixer_node(p, 77, half, 1, 0, node_floats, 144, node_words, 6);
     REFUSED(n.status, MIXER_ID_TAKEN, 0);
     CHECK(n.node == 0 && n.plan.nodes == 1 && node_words[3] == 0);
+    return p;
+}
+
+/* The same plan with its steps, finished. */
+static mixer_plan built(mixer_plan p)
+{
+    static const uint32_t patch[] = {MIXER_PATCH, 255, 3, 0}, gain[] = {MIXER_GAIN, 0, 0, 1, 1, 2}, bad[] = {MIXER_GAIN, 0};
+    static const uint32_t output[] = {MIXER_OUTPUT, 0, 1, 1};
+    mixer_plan_reply r;
     REFUSED(mixer_step(p, bad, 2, steps, 32).status, MIXER_UNREADABLE_STEP, 0);
     r = mixer_step(p, patch, 4, steps, 32);
     ACCEPTED(r.status);
@@ -164,7 +171,7 @@ static void folded(void)
 
 int main(void)
 {
-    mixer_plan p = built();
+    mixer_plan p = built(tables());
     used(p);
     traced(p);
     folded();
