@@ -1,15 +1,15 @@
--- The bits of a word: of 0, of a power, of `|` and `&`; the bits that are 1, counted, and listed from the lowest, which is cleared.
+-- The bits of a word: of 0, of a power, of `|` of two words; the bits that are 1, counted, and listed from the lowest, which is cleared.
 -- Assumes nothing.
-use Prim.Native.Nat.{ℕ, zero, suc, _+_, _-_, _*_, _/_, _%_, _^_, _<_, min, max}
+use Prim.Native.Nat.{ℕ, zero, suc, _+_, _-_, _*_, _/_, _%_, _^_, _<_, max}
 use mathlib.Core.Path.{_≡_, refl, sym, ap, _∙_}
-use mathlib.Core.Bool.{Bool, false, _&&_, _||_}
+use mathlib.Core.Bool.{Bool, false, _||_}
 use mathlib.Core.List.{[], _∷_}
 use native.Mathlib.Nat.{div-one, zero-div, div-div-eq-div-mul, pow-succ', pow-suc, mul-mod-left, mul-div-cancel, zero-add, add-zero, add-suc, suc-add}
 use native.Mathlib.Numerals.{one-add}
 use native.Mathlib.Omega.{arith}
 use lib.Dec.{eqb, eqb·zero-suc, eqb·suc-zero, eqb·suc-suc}
 use lib.Arith.{lt-one}
-use lib.Bits.{bitAnd, bitOr, or-shr, or-step, and-shr, and-step, and-self}
+use lib.Bits.{bitAnd, bitOr, or-shr, or-step, and-step, and-self}
 use lib.Count.{ones, ones-step, trailingZeros}
 use lib.ListN.{length}
 use Rattle.sets.specs.Sets.{bit, sift, places}
@@ -31,36 +31,26 @@ bit-power (suc m) (suc i) =
     bit-suc (2 ^ suc m) i ∙ ap (λ (x : ℕ). bit x i) (ap (λ (x : ℕ). x / 2) (pow-suc 2 m) ∙ mul-div-cancel (2 ^ m) (omega arith)) ∙ bit-power m i
     ∙ sym (eqb·suc-suc i m)
 
--- ---- an operation on words, by what it does with two digits
+-- ---- `|` of two words, by what it does with two digits
 digit : (P : ℕ → Type 0) → P 0 → P 1 → (d : ℕ) → d < 2 → P d
 digit P z o zero h = z
 digit P z o (suc zero) h = o
 digit P z o (suc (suc d)) h = absurd (omega arith)
 
--- d is f on the digits x and y
-abbrev Agrees : (ℕ → ℕ → ℕ) → (Bool → Bool → Bool) → ℕ → ℕ → Type 0
-Agrees d f x y = (d x y < 2) × (eqb (d x y) 1 ≡ f (eqb x 1) (eqb y 1))
+abbrev IsOr : ℕ → ℕ → Type 0
+IsOr x y = eqb (max x y) 1 ≡ (eqb x 1 || eqb y 1)
 
-module _ (op d : ℕ → ℕ → ℕ) (f : Bool → Bool → Bool)
-    (shr : (x y k : ℕ) → op x y / 2 ^ k ≡ op (x / 2 ^ k) (y / 2 ^ k))
-    (step : (x y : ℕ) → op x y ≡ op (x / 2) (y / 2) * 2 + d (x % 2) (y % 2))
-    (p00 : Agrees d f 0 0) (p01 : Agrees d f 0 1) (p10 : Agrees d f 1 0) (p11 : Agrees d f 1 1) where
-  agree : (x : ℕ) → x < 2 → (y : ℕ) → y < 2 → Agrees d f x y
-  agree = digit (λ x. (y : ℕ) → y < 2 → Agrees d f x y) (digit (Agrees d f 0) p00 p01) (digit (Agrees d f 1) p10 p11)
-
-  bit-op : (x y i : ℕ) → bit (op x y) i ≡ f (bit x i) (bit y i)
-  bit-op x y i =
-      let a = x / 2 ^ i in
-      let b = y / 2 ^ i in
-      let g = agree (a % 2) (omega arith) (b % 2) (omega arith) in
-      let odd : (op (a / 2) (b / 2) * 2 + d (a % 2) (b % 2)) % 2 ≡ d (a % 2) (b % 2) = omega (arith, g .0) in
-      ap (λ (w : ℕ). eqb (w % 2) 1) (shr x y i ∙ step a b) ∙ ap (λ (w : ℕ). eqb w 1) odd ∙ g .1
+or-digits : (x : ℕ) → x < 2 → (y : ℕ) → y < 2 → IsOr x y
+or-digits = digit (λ x. (y : ℕ) → y < 2 → IsOr x y) (digit (IsOr 0) refl refl) (digit (IsOr 1) refl refl)
 
 pub bit-or : (x y i : ℕ) → bit (bitOr x y) i ≡ (bit x i || bit y i)
-bit-or = bit-op bitOr max _||_ or-shr or-step (omega arith, refl) (omega arith, refl) (omega arith, refl) (omega arith, refl)
-
-pub bit-and : (x y i : ℕ) → bit (bitAnd x y) i ≡ (bit x i && bit y i)
-bit-and = bit-op bitAnd min _&&_ and-shr and-step (omega arith, refl) (omega arith, refl) (omega arith, refl) (omega arith, refl)
+bit-or x y i =
+    let a = x / 2 ^ i in
+    let b = y / 2 ^ i in
+    let odd : (bitOr (a / 2) (b / 2) * 2 + max (a % 2) (b % 2)) % 2 ≡ max (a % 2) (b % 2) = omega arith in
+    ap (λ (w : ℕ). eqb (w % 2) 1) (or-shr x y i ∙ or-step a b)
+    ∙ ap (λ (w : ℕ). eqb w 1) odd
+    ∙ or-digits (a % 2) (omega arith) (b % 2) (omega arith)
 
 -- ---- the places of the bits that are 1
 half-below : (w n : ℕ) → w < 2 ^ suc n → w / 2 < 2 ^ n

@@ -1,9 +1,9 @@
 -- The members of a set of numbers below 256, from its four words. Definitions only.
 use Prim.Native.Nat.{ℕ, zero, suc, _/_, _%_, _^_}
-use mathlib.Core.Bool.{Bool, _&&_, cond}
+use mathlib.Core.Bool.{Bool, cond}
 use mathlib.Core.List.{List, [], _∷_}
-use lib.Dec.{eqb, ltb}
-use lib.ListN.{length, getD}
+use lib.Dec.{eqb}
+use lib.ListN.{getD}
 use Rattle.sets.specs.declared.Set.{Set}
 
 -- bit i of a word, the lowest of which is bit 0
@@ -25,10 +25,6 @@ sift p i (suc n) = cond (p i) (i ∷ sift p (suc i) n) (sift p (suc i) n)
 -- the members of a set, ascending
 abbrev pub members : Set → List ℕ
 members s = sift (member s) 0 256
-
--- whether a number is in both sets
-unfoldable pub someBoth : Set → Set → Bool
-someBoth a b = ltb 0 (length (sift (λ i. member a i && member b i) 0 256))
 
 -- ---- for the functions on one word
 

@@ -8,7 +8,7 @@ ghost use Prim.Native.Nat.{ℕ, _+_, _<_, _≤_};
 ghost use lib.Dec.{eqb};
 ghost use lib.ListN.{length, drop, getD};
 ghost use lib.Seq.{sets};
-ghost use Rattle.sets.specs.Sets.{words, member, members, someBoth, only, places};
+ghost use Rattle.sets.specs.Sets.{words, member, members, only, places};
 
 // The number i is in the set where bit i % 64 of word i / 64 is 1.
 pub struct Set {
@@ -46,9 +46,6 @@ fn list_word(word: u64, base: u16, at: usize, out: &mut [u16]) -> usize
 }
 
 impl Set {
-    // How many members a set can have.
-    pub const SIZE: u32 = 256;
-
     pub fn empty() -> Set
         ensures { λ r. ⌜ ((j : ℕ) → member r j ≡ false) ⌝ }
     {
@@ -100,16 +97,6 @@ impl Set {
             w2: self.w2 | other.w2,
             w3: self.w3 | other.w3,
         }
-    }
-
-    // Whether some number is in both.
-    pub fn meets(self, other: Set) -> bool
-        ensures { λ r. ⌜ r ≡ someBoth self other ⌝ }
-    {
-        ((self.w0 & other.w0) != 0)
-            | ((self.w1 & other.w1) != 0)
-            | ((self.w2 & other.w2) != 0)
-            | ((self.w3 & other.w3) != 0)
     }
 
     pub fn count(self) -> u32

@@ -1,10 +1,9 @@
 -- `sets::Set::with` meets its contract. Assumes nothing.
 use mathlib.Core.Path.{_≡_, ap, _∙_}
 use borrow.Author.Needs.{needs}
-use lib.Bits.{bitOr}
 use Rattle.sets.specs.declared.Set.{Set}
 use Rattle.sets.specs.Sets.{member}
-use Rattle.sets.proofs.Laws.{set, each, single, member-with}
+use Rattle.sets.proofs.Laws.{set, union, single, member-with}
 use Rattle.sets.proofs.Set.with.Statement.{statement}
 use Rattle.sets.proofs.Set.with.Tie as tie
 
@@ -30,7 +29,7 @@ returns c j =
     let a = s .args .self in
     let one : set (o0 .result) (o1 .result) (o2 .result) (o3 .result) ≡ single (s .args .i) =
     λ k. record { w0 = o0 .ensures k; w1 = o1 .ensures k; w2 = o2 .ensures k; w3 = o3 .ensures k } in
-    ap (λ (b : Set). member (each bitOr a b) j) one ∙ member-with a (s .args .i) j (s .pre)
+    ap (λ (b : Set). member (union a b) j) one ∙ member-with a (s .args .i) j (s .pre)
 
 pub with-spec : {M : Type 1} → statement M
 with-spec =
