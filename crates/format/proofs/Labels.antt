@@ -1,16 +1,16 @@
 -- What holds of every format and every label, from one computed test over the list of formats. Assumes nothing.
 use mathlib.Core.Path.{_≡_, ap}
-use mathlib.Core.Bool.{Bool, true}
+use mathlib.Core.Bool.{Bool}
 use mathlib.Core.List.{List, []}
 use Prim.Native.Nat.{ℕ, suc, _+_, _<_, _≤_}
 use native.Mathlib.Numerals.{add-one}
-use borrow.Author.Tests.{ltb-true, eq-eqb, ne-eqb}
+use borrow.Author.Tests.{eq-eqb, ne-eqb}
 use lib.Dec.{ltb, leb, ltb→lt, leb→le}
 use lib.ListN.{length, getD, drop, drop-of-length-le, List·getD-eq-default}
 use lib.Seq.{drop-cons}
 use Rattle.lists.proofs.Tables.{every, every-at, every-or}
 use Rattle.format.specs.Labels.{noLabel}
-use Rattle.format.specs.Formats.{formats, labels, channels, labelOf, position, indexOf, has}
+use Rattle.format.specs.Formats.{formats, labels, channels, labelOf, position}
 
 pub no-format : (f : ℕ) → 7 ≤ f → labels f ≡ []
 unfolding labels
@@ -44,8 +44,3 @@ module _ (l : ℕ) (xs : List ℕ) (i d : ℕ) (h : i < length xs) where
 
 pub position-none : (l : ℕ) (xs : List ℕ) (i : ℕ) → length xs ≤ i → position l (drop i xs) ≡ 0
 position-none l xs i h = ap (position l) (drop-of-length-le xs h)
-
--- ---- a label that the format has stands at one of its channels
-pub index-lt : (f l : ℕ) → has f l ≡ true → indexOf f l < channels f
-unfolding has
-index-lt f l h = ltb-true (indexOf f l) (channels f) h

@@ -6,12 +6,17 @@ use native.Mathlib.Nat.{le-of-suc-le-suc, not-suc-le-zero}
 use native.Mathlib.Numerals.{add-one}
 use native.Mathlib.Omega.{arith}
 use native.Mathlib.Decide.{ℕ-discrete}
-use lib.ListN.{length, getD, drop, set, length-set}
+use lib.ListN.{length, getD, take, drop, set, length-set}
 use lib.Seq.{take-all, getD-set-same, getD-set-other, getD-take, getD-drop, ext-getD}
-use Rattle.lists.specs.Parts.{part, upto, filled}
+use Rattle.lists.specs.Parts.{part, upto}
 use Rattle.lists.proofs.Stores.{length-part}
 
 -- ---- f of each of a list's elements in front of another
+
+-- l with f of the first n of xs in front: what the loops hold that store one list over another
+abbrev pub filled : {A B : Type 0} → (A → B) → List A → ℕ → List B → List B
+filled f xs n l = map f (take n xs) ++ drop n l
+
 module _ {A B : Type 0} (f : A → B) where
   more : (xs : List A) (i : ℕ) (l : List B) (d : A) → i < length xs → i < length l → set (filled f xs i l) i (f (getD xs i d)) ≡ filled f xs (suc i) l
   more [] i l d h k = absurd (not-suc-le-zero h)

@@ -1,6 +1,6 @@
 -- Parts of a list, and lists made place by place. A run of stores from a place on is the library's `sets` (lib.Seq). Definitions only.
 use Prim.Native.Nat.{ℕ, zero, suc}
-use mathlib.Core.List.{List, _++_, map}
+use mathlib.Core.List.{List}
 use lib.ListN.{take, drop, set}
 
 -- n of xs from place k on
@@ -11,7 +11,3 @@ part k n xs = take n (drop k xs)
 abbrev pub upto : {A : Type 0} → ℕ → (ℕ → A) → List A → List A
 upto zero f xs = xs
 upto (suc n) f xs = set (upto n f xs) n (f n)
-
--- l with f of the first n of xs in front
-abbrev pub filled : {A B : Type 0} → (A → B) → List A → ℕ → List B → List B
-filled f xs n l = map f (take n xs) ++ drop n l

@@ -29,10 +29,6 @@ ramping-before (Moving cur step t left) m n h e = le-leb m left (omega (arith, l
 
 -- ---- the samples of a local, from those of a part
 module _ (f : ℕ → Float → Float → Float) (k : ℕ) (x y₀ : List Float) where
-  pub none-mixed : y₀ ≡ mixedInto f k 0 x y₀
-  unfolding mixedInto
-  none-mixed = none-stored (λ i. f (k + i) (getD x i nan) (getD y₀ i nan)) y₀ 0
-
   length-mixed : (m : ℕ) → length (mixedInto f k m x y₀) ≡ length y₀
   unfolding mixedInto
   length-mixed m = simp length-sets

@@ -1,5 +1,4 @@
--- The lent areas as nodes: what is read after a store, at the same number and at another, and what of the areas counts.
--- Assumes nothing.
+-- The lent areas as nodes: what is read after a store, at the same number and at another. Assumes nothing.
 use Prim.Native.Nat.{ℕ, zero, suc, _+_, _*_, _<_, _≤_}
 use native.Mathlib.Nat.{add-zero, not-suc-le-zero}
 use native.Mathlib.Omega.{arith}
@@ -7,11 +6,11 @@ use native.Mathlib.Decide.{decLt, ℕ-discrete}
 use mathlib.Core.Logic.{inl, inr}
 use mathlib.Core.Path.{_≡_, refl, sym, _∙_}
 use mathlib.Core.List.{List, [], _∷_, _++_}
-use lib.ListN.{length, getD, take, set, length-set, length-append, List·getD-append}
-use lib.Seq.{sets, length-sets, getD-take, getD-set-same, getD-set-other, getD-at, ext-getD}
+use lib.ListN.{length, getD, set, length-set, length-append, List·getD-append}
+use lib.Seq.{sets, length-sets, getD-set-same, getD-set-other, getD-at, ext-getD}
 use lib.Ieee.{Float}
 use Rattle.lists.specs.Parts.{part}
-use Rattle.lists.proofs.Stores.{part-take, sets-append, getD-sets, getD-sets-at, part-sets-before, part-sets-after, part-sets-same}
+use Rattle.lists.proofs.Stores.{sets-append, getD-sets, getD-sets-at, part-sets-before, part-sets-after, part-sets-same}
 use Rattle.node.specs.Sizes.{maxValues, nodeFloats, nodeWords}
 use Rattle.node.specs.Nodes.{Full}
 use Rattle.node.specs.Areas.{Room, idAt, lenAt, leftAt, nodeAt, nodes, floatsOf, wordsOf, storedFloats, storedWords}
@@ -184,22 +183,3 @@ nodes-stored count floats words n node full h room =
         go (no e) =
             getD-nodes count fs ws i node k ∙ stored-other floats words n node full i e
             ∙ sym (getD-set-other before n i node node e ∙ getD-nodes count floats words i node k)
-
--- ---- only the floats and the words of the first count nodes matter
-pub node-front : (count : ℕ) (floats : List Float) (words : List ℕ) (i : ℕ) → i < count
-    → nodeAt (take (count * nodeFloats) floats) (take (count * nodeWords) words) i ≡ nodeAt floats words i
-unfolding nodeAt
-node-front count floats words i h =
-    rw (
-      part-take (i * nodeFloats) maxValues (count * nodeFloats) floats (omega arith),
-      part-take (i * nodeFloats + maxValues) maxValues (count * nodeFloats) floats (omega arith),
-      part-take (i * nodeFloats + 2 * maxValues) maxValues (count * nodeFloats) floats (omega arith),
-      getD-take (count * nodeWords) words (i * nodeWords) 0 (omega arith),
-      getD-take (count * nodeWords) words (i * nodeWords + 1) 0 (omega arith),
-      getD-take (count * nodeWords) words (i * nodeWords + 2) 0 (omega arith),
-    )
-
-pub nodes-front : (count : ℕ) (fs gs : List Float) (vs ws : List ℕ) → take (count * nodeFloats) fs ≡ take (count * nodeFloats) gs
-    → take (count * nodeWords) vs ≡ take (count * nodeWords) ws → nodes count fs vs ≡ nodes count gs ws
-nodes-front count fs gs vs ws p q =
-    nodes-same count fs gs vs ws (λ (i : ℕ) (h : i < count). sym (node-front count fs vs i h) ∙ rw (p, q) (node-front count gs ws i h))

@@ -4,20 +4,20 @@ use native.Mathlib.Nat.{not-suc-le-zero}
 use native.Mathlib.Numerals.{add-one}
 use native.Mathlib.Omega.{arith}
 use native.Mathlib.Decide.{decLt, ℕ-discrete}
-use mathlib.Core.Path.{_≡_, refl, sym, ap, _∙_}
+use mathlib.Core.Path.{_≡_, refl, sym, _∙_}
 use mathlib.Core.Bool.{Bool, true, false, _||_, true≢false}
 use mathlib.Core.List.{List, []}
 use lib.Dec.{ltb}
-use lib.ListN.{length, take}
+use lib.ListN.{length}
 use lib.Ieee.{Float}
 use borrow.Author.Tests.{ltb-false, le-ltb}
-use Rattle.node.specs.Sizes.{maxValues, nodeFloats, nodeWords, maxRamp}
+use Rattle.node.specs.Sizes.{maxValues, nodeWords, maxRamp}
 use Rattle.node.specs.Nodes.{newNode, setNode, finishBlock}
 use Rattle.node.specs.Areas.{nodeAt, badNode, InRange, someBad, storedWords}
 use Rattle.node.specs.declared.Node.{Node}
 use Rattle.node.proofs.Kept.{len-set, len-new, len-finish}
 use Rattle.node.proofs.Left.{left-new, left-bound-set, left-bound-finish}
-use Rattle.node.proofs.Areas.{len-stored, left-stored, word-other, node-front}
+use Rattle.node.proofs.Areas.{len-stored, left-stored, word-other}
 
 -- ---- one node
 or-left : (a b : Bool) → (a || b) ≡ false → a ≡ false
@@ -93,22 +93,6 @@ some-bad words count floats i h t = go (someBad words count) refl
     go : (b : Bool) → someBad words count ≡ b → b ≡ true
     go true e = refl
     go false e = sym (in-range-good (nodeAt floats words i) (none-bad-at words count e floats i h)) ∙ t
-
--- ---- only the words of the first count nodes matter
-some-bad-same : (count : ℕ) (vs ws : List ℕ) → ((i : ℕ) → i < count → badNode (nodeAt [] vs i) ≡ badNode (nodeAt [] ws i))
-    → someBad vs count ≡ someBad ws count
-unfolding someBad
-some-bad-same zero vs ws h = refl
-some-bad-same (suc n) vs ws h = rw (some-bad-same n vs ws (λ (i : ℕ) (l : i < n). h i (omega arith)), h n (omega arith))
-
-pub some-bad-front : (count : ℕ) (vs ws : List ℕ) → take (count * nodeWords) vs ≡ take (count * nodeWords) ws
-    → someBad vs count ≡ someBad ws count
-some-bad-front count vs ws p =
-    some-bad-same count vs ws
-    (λ (i : ℕ) (h : i < count). front vs i h ∙ ap (λ (us : List ℕ). badNode (nodeAt [] us i)) p ∙ sym (front ws i h))
-  where
-    front : (us : List ℕ) (i : ℕ) → i < count → badNode (nodeAt [] us i) ≡ badNode (nodeAt [] (take (count * nodeWords) us) i)
-    front us i h = ap badNode (sym (node-front count [] us i h)) ∙ bad-by-words (take (count * nodeFloats) []) [] (take (count * nodeWords) us) i
 
 -- ---- after a store
 pub none-bad-stored : (words : List ℕ) (n : ℕ) (node : Node) (count : ℕ) → (n + 1) * nodeWords ≤ length words → InRange node

@@ -18,11 +18,6 @@ pub finish-rest : (n : Node) (block : ℕ) → n .left ≡ 0 → finishBlock n b
 unfolding finishBlock
 finish-rest n block e = rw (eq-eqb (n .left) 0 e)
 
-pub blocks-rest : (k block : ℕ) (n : Node) → n .left ≡ 0 → blocks k block n ≡ n
-unfolding blocks
-blocks-rest zero block n e = refl
-blocks-rest (suc k) block n e = ap (λ (m : Node). finishBlock m block) (blocks-rest k block n e) ∙ finish-rest n block e
-
 pub gain-rest : (n : Node) (i : ℕ) → n .left ≡ 0 → gainOf n i ≡ Rest (at (n .target) i)
 unfolding gainOf
 gain-rest n i e = rw (eq-eqb (n .left) 0 e)

@@ -2,8 +2,7 @@
 use native.Mathlib.Nat.{le-refl}
 use lib.Seq.{drop-length}
 use mathlib.Core.List.{append-nil, List, _++_, map}
-use Rattle.lists.specs.Parts.{filled}
-use Rattle.lists.proofs.Filled.{filled-next, filled-more, filled-all}
+use Rattle.lists.proofs.Filled.{filled, filled-next, filled-more, filled-all}
 use mathlib.Core.Path.{_≡_, refl, ap, _∙_}
 use Prim.Native.Nat.{ℕ, _-_, _<_, _≤_}
 use native.Mathlib.Omega.{arith}

@@ -7,8 +7,7 @@ use native.Mathlib.Omega.{arith}
 use borrow.Author.Needs.{needs}
 use lib.ListN.{length, take, set}
 use lib.Ieee.{Float, nan}
-use Rattle.lists.specs.Parts.{filled}
-use Rattle.lists.proofs.Filled.{filled-more, length-filled, filled-all}
+use Rattle.lists.proofs.Filled.{filled, filled-more, length-filled, filled-all}
 use Rattle.rounding.specs.Narrow.{narrowed}
 use Rattle.fold.proofs.put.Statement.{statement}
 use Rattle.fold.proofs.put.Tie as tie

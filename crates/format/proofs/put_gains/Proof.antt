@@ -6,8 +6,7 @@ use native.Mathlib.Omega.{arith}
 use borrow.Author.Needs.{needs}
 use lib.Ieee.{Float}
 use lib.ListN.{length, getD, set}
-use Rattle.lists.specs.Parts.{filled}
-use Rattle.lists.proofs.Filled.{filled-more, length-filled, filled-all}
+use Rattle.lists.proofs.Filled.{filled, filled-more, length-filled, filled-all}
 use Rattle.format.specs.Formats.{labels, channels, labelOf, side}
 use Rattle.format.specs.Balance.{ofSide, gainsOf}
 use Rattle.format.proofs.put_gains.Statement.{statement}
