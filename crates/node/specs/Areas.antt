@@ -59,15 +59,16 @@ storedWords words n node = sets words (n * nodeWords) (wordsOf node)
 
 -- ---- number 14: "any lent node, used or not, new or old, with len above 24 or left above 16,777,216"
 
-unfoldable pub badNode : Node → Bool
-badNode node = ltb maxValues (node .len) || ltb maxRamp (node .left)
+-- a node with this len and this left
+unfoldable pub badNode : ℕ → ℕ → Bool
+badNode len left = ltb maxValues len || ltb maxRamp left
 
 -- what the test lets pass
 pub record InRange (node : Node) : Type 0 where
   pub len : node .len ≤ maxValues
   pub left : node .left ≤ maxRamp
 
--- one of the first count nodes is bad, which its words alone decide
+-- one of the first count nodes, by its words
 unfoldable pub someBad : List ℕ → ℕ → Bool
 someBad words zero = false
-someBad words (suc n) = someBad words n || badNode (nodeAt [] words n)
+someBad words (suc n) = someBad words n || badNode (lenAt words n) (leftAt words n)

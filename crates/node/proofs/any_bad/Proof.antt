@@ -3,9 +3,8 @@ use Prim.Native.Nat.{_≤_, _-_}
 use native.Mathlib.Omega.{arith}
 use mathlib.Core.Path.{_≡_, refl, sym, ap, _∙_}
 use mathlib.Core.Bool.{false}
-use mathlib.Core.List.{[]}
 use borrow.Author.Needs.{needs}
-use Rattle.node.specs.Areas.{nodeAt, badNode, someBad}
+use Rattle.node.specs.Areas.{badNode, someBad}
 use Rattle.node.proofs.Bad.{none-bad-more, some-bad}
 use Rattle.node.proofs.any_bad.Statement.{statement}
 use Rattle.node.proofs.any_bad.Tie as tie
@@ -45,11 +44,11 @@ shared-slice-read-if1-2 : tie.Need-shared-slice-read-if1-2 Inv-loop μ-loop
 shared-slice-read-if1-2 c = search needs
 
 returns : tie.Need-returns Inv-loop μ-loop
-unfolding badNode nodeAt
+unfolding badNode
 returns c =
     let l = c .before .before .before .before .loop in
     let a = c .before .before .before .before .before .args in
-    sym (some-bad (a .words .now) (a .count) [] (l .i) (omega arith) (c .if1 .taken))
+    sym (some-bad (a .words .now) (a .count) (l .i) (omega arith) (c .if1 .taken))
 
 add-i : tie.Need-add-i Inv-loop μ-loop
 add-i c = search needs
@@ -58,7 +57,7 @@ loop-less : tie.Need-loop-less Inv-loop μ-loop
 loop-less c = search needs
 
 loop-again : tie.Need-loop-again Inv-loop μ-loop
-unfolding badNode nodeAt
+unfolding badNode
 loop-again c =
     let l = c .before .before .before .before .loop in
     let a = c .before .before .before .before .before .args in
