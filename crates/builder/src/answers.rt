@@ -5,7 +5,7 @@ use plan::Read;
 use refusal::Answer;
 use refusal::Refusal;
 ghost use mathlib.Core.Path.{_≡_};
-ghost use Prim.Native.Nat.{_≤_, min};
+ghost use Prim.Native.Nat.{_≤_};
 ghost use Rattle.plan.specs.Limits.{unitLimits};
 ghost use Rattle.builder.specs.Growth.{over, add};
 ghost use Rattle.builder.specs.Calls.{newAnswer, buffersAnswer, coefficientsAnswer, nodeAnswer, recordLength, stepAnswer, finishAnswer};
@@ -119,10 +119,4 @@ pub fn finish_answer(plan: Plan, len: usize) -> Answer
         return Answer::Refused(Refusal::of(Refusal::SHORT_AREA));
     }
     Answer::Accepted
-}
-
-pub fn smaller(a: usize, b: usize) -> usize
-    ensures { λ r. ⌜ r ≡ min a b ⌝ }
-{
-    if a < b { a } else { b }
 }

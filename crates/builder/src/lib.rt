@@ -116,7 +116,7 @@ impl PlanBuilder {
         ensures { λ r. ⌜ r ≡ bufferNumber plan span i (now (indices .entry)) ⌝ }
     {
         let start = span.start as usize;
-        let end = answers::smaller(plan.indices, indices.len());
+        let end = node::smaller(plan.indices, indices.len());
         if end <= start {
             return NumberAnswer::Refused(Refusal::of(Refusal::SHORT_AREA));
         }

@@ -6,12 +6,6 @@ ghost use Prim.Native.Nat.{min};
 ghost use lib.ListN.{length};
 ghost use Rattle.mix.specs.Mix.{gainFrom, gainAt, gained, Buffers, used, Values};
 
-fn smaller(a: usize, b: usize) -> usize
-    ensures { λ r. ⌜ r ≡ min a b ⌝ }
-{
-    if a < b { a } else { b }
-}
-
 // The gain with one value of each row of a node.
 pub fn gain_of(cur: f32, step: f32, target: f32, left: u32) -> Gain
     ensures { λ r. ⌜ r ≡ gainFrom cur step target left ⌝ }
@@ -39,7 +33,7 @@ pub fn gain(
     requires { ⌜ Values (min (length (now src)) (length (now dst))) (now cur) (now step) (now target) ⌝ }
     ensures { λ _. ⌜ now (area .exit) ≡ gained block (gainAt (now (cur .entry)) (now (step .entry)) (now (target .entry)) left) 0 (now (src .entry)) (now (dst .entry)) (now (area .entry)) ⌝ }
 {
-    let n = smaller(src.len(), dst.len());
+    let n = node::smaller(src.len(), dst.len());
     for c in 0..n {
         let s = src[c] as usize;
         let d = dst[c] as usize;

@@ -27,7 +27,8 @@ pub enum Gain {
     Moving(f32, f32, f32, u32),
 }
 
-fn smaller(a: usize, b: usize) -> usize
+// The lesser of two counts.
+pub fn smaller(a: usize, b: usize) -> usize
     ensures { λ r. ⌜ r ≡ min a b ⌝ }
 {
     if a < b { a } else { b }
