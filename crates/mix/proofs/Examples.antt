@@ -7,9 +7,9 @@ use lib.IntN.{pos, negsuc}
 use lib.Ieee.{Float, nan, inf, fin, add, mul, eq, ofInt, ofBits}
 use Rattle.node.specs.declared.Gain.{Gain}
 use Rattle.node.specs.declared.Gain.the-variants.{Rest, Moving}
-use Rattle.node.specs.Nodes.{f32, factor}
+use Rattle.node.specs.Nodes.{f32, gainAt, factor}
 use Rattle.mix.specs.Samples.{silence, sampled}
-use Rattle.mix.specs.Mix.{gainAt, added, weighted, sent, gained, columns, rows, weighs, sends}
+use Rattle.mix.specs.Mix.{added, weighted, sent, gained, columns, rows, weighs, sends}
 
 abbrev pub infinity : Float
 infinity = inf false

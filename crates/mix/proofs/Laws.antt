@@ -1,5 +1,5 @@
--- Laws of the definitions, for the crates above: the gains of a node's rows, the length that each definition keeps, the buffers that it does not
--- write, and what an Output holds. Assumes nothing.
+-- Laws of the definitions, for the crates above: the length that each definition keeps, the buffers that it does not write, and what an Output
+-- holds. Assumes nothing.
 use mathlib.Core.Path.{_≡_, refl, _∙_}
 use mathlib.Core.List.{List, [], _∷_}
 use mathlib.Core.Logic.{inr}
@@ -10,17 +10,11 @@ use lib.ListN.{length, getD, length-take}
 use lib.Seq.{sets, length-sets, getD-take}
 use lib.Ieee.{Float, nan}
 use Rattle.lists.proofs.Stores.{getD-sets}
-use Rattle.node.specs.declared.Node.{Node}
 use Rattle.node.specs.declared.Gain.{Gain}
-use Rattle.node.specs.Nodes.{gainOf}
 use Rattle.mix.specs.Samples.{sample, sampled}
-use Rattle.mix.specs.Mix.{gainAt, gained, columns, rows, weighs, sends, cleared, appended, NotIn, used}
+use Rattle.mix.specs.Mix.{gained, columns, rows, weighs, sends, cleared, appended, NotIn, used}
 use Rattle.mix.proofs.Stored.{length-sampled, stored-at, stored-before}
 use Rattle.mix.proofs.Put.{put-other}
-
-pub gain-of-node : (n : Node) (i : ℕ) → gainAt (n .cur) (n .step) (n .target) (n .left) i ≡ gainOf n i
-unfolding gainOf
-gain-of-node n i = refl
 
 -- ---- none of a list: not its first, not of the others, not of those used
 pub not-first : {b d : ℕ} (dst : List ℕ) → NotIn b (d ∷ dst) → b ≡ d → ⊥

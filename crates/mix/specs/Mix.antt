@@ -4,13 +4,12 @@ use Prim.Native.Nat.{ℕ, suc, _+_, _*_, _≤_, _<_}
 use mathlib.Core.Path.{_≡_}
 use mathlib.Core.Bool.{Bool, false, _||_, cond}
 use mathlib.Core.List.{List, [], _∷_}
-use lib.Dec.{eqb}
 use lib.ListN.{length, getD, take}
 use lib.Seq.{sets}
 use lib.Ieee.{Float, nan, binary32, add, mul, eq}
 use Rattle.node.specs.declared.Gain.{Gain}
 use Rattle.node.specs.declared.Gain.the-variants.{Rest, Moving}
-use Rattle.node.specs.Nodes.{at, factor}
+use Rattle.node.specs.Nodes.{factor}
 use Rattle.mix.specs.Samples.{silence, sample, sampled, put}
 
 -- equal to 0, as IEEE has it: -0 is, a NaN is not
@@ -82,15 +81,6 @@ weighs block g weights v (s ∷ src) d area = weighs block g weights (suc v) src
 unfoldable pub sends : ℕ → Gain → List Float → ℕ → List ℕ → List ℕ → List Float → List Float
 sends block g weights v src [] area = area
 sends block g weights v src (d ∷ dst) area = sends block g weights (v + length src) src dst (weighs block g weights v src d area)
-
--- ---- the gains of a node, from its rows
-
-abbrev pub gainFrom : Float → Float → Float → ℕ → Gain
-gainFrom cur step target left = cond (eqb left 0) (Rest target) (Moving cur step target left)
-
--- gain i of a node with these rows and this left
-abbrev pub gainAt : List Float → List Float → List Float → ℕ → ℕ → Gain
-gainAt cur step target left i = gainFrom (at cur i) (at step i) (at target i) left
 
 -- ---- buffers that are cleared, and buffers that go to the output
 

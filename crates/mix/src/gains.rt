@@ -1,21 +1,11 @@
-// Gain, and one gain of a node from its rows.
+// Gain.
 use crate::pieces::scale_into;
 use node::Gain;
 ghost use mathlib.Core.Path.{_≡_};
 ghost use Prim.Native.Nat.{min};
 ghost use lib.ListN.{length};
-ghost use Rattle.mix.specs.Mix.{gainFrom, gainAt, gained, Buffers, used, Values};
-
-// The gain with one value of each row of a node.
-pub fn gain_of(cur: f32, step: f32, target: f32, left: u32) -> Gain
-    ensures { λ r. ⌜ r ≡ gainFrom cur step target left ⌝ }
-{
-    if left == 0 {
-        Gain::Rest(target)
-    } else {
-        Gain::Moving(cur, step, target, left)
-    }
-}
+ghost use Rattle.node.specs.Nodes.{gainAt};
+ghost use Rattle.mix.specs.Mix.{gained, Buffers, used, Values};
 
 // Gain over the first min(src, dst) channels, by the rows and the left of its node. Requires rows with a value for each channel, and of
 // the buffers used: within the area, no source a destination; and a block that is not too long.
@@ -37,7 +27,7 @@ pub fn gain(
     for c in 0..n {
         let s = src[c] as usize;
         let d = dst[c] as usize;
-        let g = gain_of(cur[c], step[c], target[c], left);
+        let g = Gain::of(cur[c], step[c], target[c], left);
         scale_into(area, block, s, d, g);
     }
 }

@@ -1,5 +1,4 @@
 // Matrix. A row is made piece by piece, all its columns at each piece, so that it is stored once; each sample sees the sources in order.
-use crate::gains::gain_of;
 use crate::samples::add_samples;
 use crate::samples::is_silent;
 use crate::samples::later;
@@ -10,8 +9,9 @@ ghost use Prim.Native.Nat.{ℕ, _+_, _*_, _≤_, _<_};
 ghost use lib.ListN.{length, getD};
 ghost use lib.Ieee.{nan};
 ghost use lib.Seq.{sets};
+ghost use Rattle.node.specs.Nodes.{gainAt};
 ghost use Rattle.mix.specs.Samples.{silence, sampled};
-ghost use Rattle.mix.specs.Mix.{gainAt, added, clearBuffer, columns, rows, maxBlock, Inside, AllInside, Row, Buffers, Values};
+ghost use Rattle.mix.specs.Mix.{added, clearBuffer, columns, rows, maxBlock, Inside, AllInside, Row, Buffers, Values};
 ghost use Rattle.mix.specs.Loops.{rowSample};
 
 // The m samples from p on added to the first m of t, by a gain from sample j on; a gain at rest equal to 0 is skipped. Requires at most 16
@@ -52,7 +52,7 @@ fn sum_columns(
     for c in 0..src.len() {
         let s = src[c] as usize;
         let i = v + c;
-        let g = gain_of(cur[i], step[i], target[i], left);
+        let g = Gain::of(cur[i], step[i], target[i], left);
         add_part(area, s * block + j, m, t, j, g);
     }
 }

@@ -71,8 +71,15 @@ abbrev pub onRamp : Float → Float → ℕ → Float
 onRamp cur step m = add binary32 cur (mul binary32 step (f32 m))
 
 -- "One gain of a node is either at rest, with its target, or ramping, with cur, step, target and left."
+abbrev pub gainFrom : Float → Float → Float → ℕ → Gain
+gainFrom cur step target left = cond (eqb left 0) (Rest target) (Moving cur step target left)
+
+-- gain i of a node with these rows and this left
+abbrev pub gainAt : List Float → List Float → List Float → ℕ → ℕ → Gain
+gainAt cur step target left i = gainFrom (at cur i) (at step i) (at target i) left
+
 unfoldable pub gainOf : Node → ℕ → Gain
-gainOf n i = cond (eqb (n .left) 0) (Rest (at (n .target) i)) (Moving (at (n .cur) i) (at (n .step) i) (at (n .target) i) (n .left))
+gainOf n i = gainAt (n .cur) (n .step) (n .target) (n .left) i
 
 -- "Ramping, sample k (from 0) below left has cur + step × (k + 1); later samples have target."
 unfoldable pub factor : Gain → ℕ → Float

@@ -6,7 +6,7 @@ ghost use lib.ListN.{length};
 ghost use lib.Seq.{sets};
 ghost use Rattle.lists.specs.Parts.{part};
 ghost use Rattle.node.specs.Sizes.{maxValues, nodeWords, maxRamp};
-ghost use Rattle.node.specs.Nodes.{withTarget, atTarget, startRamp, newNode, setNode, finishBlock, gainOf, factor};
+ghost use Rattle.node.specs.Nodes.{withTarget, atTarget, startRamp, newNode, setNode, finishBlock, gainFrom, gainOf, factor};
 ghost use Rattle.node.specs.Areas.{Room, nodeAt, storedFloats, storedWords, someBad};
 
 pub struct Node {
@@ -133,15 +133,21 @@ impl Node {
         requires { ⌜ i < maxValues ⌝ }
         ensures { λ r. ⌜ r ≡ gainOf self i ⌝ }
     {
-        if self.left == 0 {
-            Gain::Rest(self.target[i])
-        } else {
-            Gain::Moving(self.cur[i], self.step[i], self.target[i], self.left)
-        }
+        Gain::of(self.cur[i], self.step[i], self.target[i], self.left)
     }
 }
 
 impl Gain {
+    // The gain with one value of each row of a node.
+    pub fn of(cur: f32, step: f32, target: f32, left: u32) -> Gain
+        ensures { λ r. ⌜ r ≡ gainFrom cur step target left ⌝ }
+    {
+        if left == 0 {
+            return Gain::Rest(target);
+        }
+        Gain::Moving(cur, step, target, left)
+    }
+
     // The gain at sample k of the coming block. Requires a k below the longest ramp, so that an f32 holds k + 1.
     pub fn factor(self, k: usize) -> f32
         requires { ⌜ k < maxRamp ⌝ }

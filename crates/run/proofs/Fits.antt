@@ -14,7 +14,7 @@ use borrow.Author.Tests.{le-leb, lt-leb}
 use Rattle.lists.specs.Parts.{part}
 use Rattle.lists.proofs.Stores.{length-part}
 use Rattle.node.specs.Sizes.{maxValues, nodeFloats}
-use Rattle.node.specs.Nodes.{gainOf}
+use Rattle.node.specs.Nodes.{gainAt, gainOf}
 use Rattle.node.specs.Areas.{Room, lenAt, leftAt, nodeAt}
 use Rattle.node.proofs.Bad.{none-bad-at}
 use Rattle.plan.specs.declared.Plan.{Plan}
@@ -25,7 +25,7 @@ use Rattle.plan.specs.Sound.{Within, IndexList, Disjoint}
 use Rattle.plan.proofs.Plans.{some-none}
 use Rattle.plan.proofs.Spans.{length-named, named-below, used-src, used-dst}
 use Rattle.mix.specs.Samples.{silence, put}
-use Rattle.mix.specs.Mix.{gainAt, Inside, AllInside, Buffers, Values}
+use Rattle.mix.specs.Mix.{Inside, AllInside, Buffers, Values}
 use Rattle.mix.specs.Mix as mix
 use Rattle.run.specs.Run.{State, patched}
 use Rattle.run.specs.Loops.{Fit, FitStep, NodeFit}

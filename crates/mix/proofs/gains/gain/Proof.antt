@@ -4,7 +4,8 @@ use Prim.Native.Nat.{_-_, _≤_}
 use native.Mathlib.Omega.{arith}
 use lib.ListN.{length, drop}
 use borrow.Author.Needs.{needs}
-use Rattle.mix.specs.Mix.{gainAt, gained}
+use Rattle.node.specs.Nodes.{gainAt}
+use Rattle.mix.specs.Mix.{gained}
 use Rattle.mix.proofs.Given.{channel-of}
 use Rattle.mix.proofs.Turns.{channel-done, channels-done}
 use Rattle.mix.proofs.gains.gain.Statement.{statement}
@@ -40,26 +41,26 @@ shared-slice-read-d c = search needs
 cast-d : tie.Need-cast-d Inv-loop μ-loop
 cast-d c = omega (arith, c .shared-slice-known7 .given (c .before .before .before .loop .c))
 
-mul-gain-of : tie.Need-mul-gain-of Inv-loop μ-loop
-mul-gain-of c = search needs
+mul-of : tie.Need-mul-of Inv-loop μ-loop
+mul-of c = search needs
 
-shared-slice-read-gain-of : tie.Need-shared-slice-read-gain-of Inv-loop μ-loop
-shared-slice-read-gain-of c = search needs
+shared-slice-read-of : tie.Need-shared-slice-read-of Inv-loop μ-loop
+shared-slice-read-of c = search needs
 
-mul-gain-of-2 : tie.Need-mul-gain-of-2 Inv-loop μ-loop
-mul-gain-of-2 c = search needs
+mul-of-2 : tie.Need-mul-of-2 Inv-loop μ-loop
+mul-of-2 c = search needs
 
-shared-slice-read-gain-of-2 : tie.Need-shared-slice-read-gain-of-2 Inv-loop μ-loop
-shared-slice-read-gain-of-2 c = search needs
+shared-slice-read-of-2 : tie.Need-shared-slice-read-of-2 Inv-loop μ-loop
+shared-slice-read-of-2 c = search needs
 
-mul-gain-of-3 : tie.Need-mul-gain-of-3 Inv-loop μ-loop
-mul-gain-of-3 c = search needs
+mul-of-3 : tie.Need-mul-of-3 Inv-loop μ-loop
+mul-of-3 c = search needs
 
-shared-slice-read-gain-of-3 : tie.Need-shared-slice-read-gain-of-3 Inv-loop μ-loop
-shared-slice-read-gain-of-3 c = search needs
+shared-slice-read-of-3 : tie.Need-shared-slice-read-of-3 Inv-loop μ-loop
+shared-slice-read-of-3 c = search needs
 
-gain-of-requires : tie.Need-gain-of-requires Inv-loop μ-loop
-gain-of-requires c κs = search needs
+of-requires : tie.Need-of-requires Inv-loop μ-loop
+of-requires c κs = search needs
 
 scale-into-requires : tie.Need-scale-into-requires Inv-loop μ-loop
 scale-into-requires c κs =
@@ -79,7 +80,7 @@ loop-again c =
     let l = c .before .before .before .before .before .before .before .before .before .before .before .loop in (
       search needs,
       search needs,
-      channel-done (a .block) (gainAt (a .cur .now) (a .step .now) (a .target .now) (a .left)) (a .src .now) (a .dst .now) (l .c) _ (l .area) (search needs) (search needs) (c .before .before .before .before .gain-of .ensures) (l .inv .2)
+      channel-done (a .block) (gainAt (a .cur .now) (a .step .now) (a .target .now) (a .left)) (a .src .now) (a .dst .now) (l .c) _ (l .area) (search needs) (search needs) (c .before .before .before .before .of .ensures) (l .inv .2)
           (c .before .before .scale-into .ensures),
     )
 
@@ -105,13 +106,13 @@ gain-spec =
     mul-d
     shared-slice-read-d
     cast-d
-    mul-gain-of
-    shared-slice-read-gain-of
-    mul-gain-of-2
-    shared-slice-read-gain-of-2
-    mul-gain-of-3
-    shared-slice-read-gain-of-3
-    gain-of-requires
+    mul-of
+    shared-slice-read-of
+    mul-of-2
+    shared-slice-read-of-2
+    mul-of-3
+    shared-slice-read-of-3
+    of-requires
     scale-into-requires
     add-c
     loop-less

@@ -4,7 +4,8 @@ use Prim.Native.Nat.{_-_, _*_, _≤_}
 use native.Mathlib.Omega.{arith}
 use lib.ListN.{length, drop}
 use borrow.Author.Needs.{needs}
-use Rattle.mix.specs.Mix.{gainAt, rows}
+use Rattle.node.specs.Nodes.{gainAt}
+use Rattle.mix.specs.Mix.{rows}
 use Rattle.mix.proofs.Put.{ends-before}
 use Rattle.mix.proofs.Given.{row-of}
 use Rattle.mix.proofs.Turns.{no-row, row-made, rows-made}

@@ -4,7 +4,7 @@ use Prim.Native.Nat.{_-_, _≤_}
 use native.Mathlib.Omega.{arith}
 use lib.ListN.{length}
 use borrow.Author.Needs.{needs}
-use Rattle.mix.specs.Mix.{gainAt}
+use Rattle.node.specs.Nodes.{gainAt}
 use Rattle.mix.proofs.Rows.{Left, columns-left, column-done, columns-done}
 use Rattle.mix.proofs.sums.sum_columns.Statement.{statement}
 use Rattle.mix.proofs.sums.sum_columns.Tie as tie
@@ -30,26 +30,26 @@ cast-s c = omega (arith, c .shared-slice-known6 .given (c .before .before .loop 
 add-i : tie.Need-add-i Inv-loop μ-loop
 add-i c = search needs
 
-mul-gain-of : tie.Need-mul-gain-of Inv-loop μ-loop
-mul-gain-of c = search needs
+mul-of : tie.Need-mul-of Inv-loop μ-loop
+mul-of c = search needs
 
-shared-slice-read-gain-of : tie.Need-shared-slice-read-gain-of Inv-loop μ-loop
-shared-slice-read-gain-of c = search needs
+shared-slice-read-of : tie.Need-shared-slice-read-of Inv-loop μ-loop
+shared-slice-read-of c = search needs
 
-mul-gain-of-2 : tie.Need-mul-gain-of-2 Inv-loop μ-loop
-mul-gain-of-2 c = search needs
+mul-of-2 : tie.Need-mul-of-2 Inv-loop μ-loop
+mul-of-2 c = search needs
 
-shared-slice-read-gain-of-2 : tie.Need-shared-slice-read-gain-of-2 Inv-loop μ-loop
-shared-slice-read-gain-of-2 c = search needs
+shared-slice-read-of-2 : tie.Need-shared-slice-read-of-2 Inv-loop μ-loop
+shared-slice-read-of-2 c = search needs
 
-mul-gain-of-3 : tie.Need-mul-gain-of-3 Inv-loop μ-loop
-mul-gain-of-3 c = search needs
+mul-of-3 : tie.Need-mul-of-3 Inv-loop μ-loop
+mul-of-3 c = search needs
 
-shared-slice-read-gain-of-3 : tie.Need-shared-slice-read-gain-of-3 Inv-loop μ-loop
-shared-slice-read-gain-of-3 c = search needs
+shared-slice-read-of-3 : tie.Need-shared-slice-read-of-3 Inv-loop μ-loop
+shared-slice-read-of-3 c = search needs
 
-gain-of-requires : tie.Need-gain-of-requires Inv-loop μ-loop
-gain-of-requires c κs = search needs
+of-requires : tie.Need-of-requires Inv-loop μ-loop
+of-requires c κs = search needs
 
 mul-add-part : tie.Need-mul-add-part Inv-loop μ-loop
 mul-add-part c = omega (arith, c .before .before .before .before .before .before .before .before .before .before .before .before .pre .1 .1 (c .before .before .before .before .before .before .loop .c) (c .before .before .before .before .before .loop-test .taken))
@@ -72,7 +72,7 @@ loop-again c =
     let l = c .before .before .before .before .before .before .before .before .loop in (
       search needs,
       c .add-part .ensures .0,
-      column-done (a .block) (gainAt (a .cur .now) (a .step .now) (a .target .now) (a .left)) (a .v) (a .src .now) (a .area .now) (a .j) (a .m) (a .t .now) (l .c) _ (l .t) _ (search needs) (c .before .before .gain-of .ensures) (l .inv .2) (c .add-part .ensures .1),
+      column-done (a .block) (gainAt (a .cur .now) (a .step .now) (a .target .now) (a .left)) (a .v) (a .src .now) (a .area .now) (a .j) (a .m) (a .t .now) (l .c) _ (l .t) _ (search needs) (c .before .before .of .ensures) (l .inv .2) (c .add-part .ensures .1),
     )
 
 returns : tie.Need-returns Inv-loop μ-loop
@@ -91,13 +91,13 @@ sum-columns-spec =
     shared-slice-read-s
     cast-s
     add-i
-    mul-gain-of
-    shared-slice-read-gain-of
-    mul-gain-of-2
-    shared-slice-read-gain-of-2
-    mul-gain-of-3
-    shared-slice-read-gain-of-3
-    gain-of-requires
+    mul-of
+    shared-slice-read-of
+    mul-of-2
+    shared-slice-read-of-2
+    mul-of-3
+    shared-slice-read-of-3
+    of-requires
     mul-add-part
     add-add-part
     add-part-requires

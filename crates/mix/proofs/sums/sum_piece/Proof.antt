@@ -4,7 +4,7 @@ use native.Mathlib.Omega.{arith}
 use lib.Ieee.{Float}
 use borrow.Author.Needs.{needs}
 use Rattle.mix.specs.Samples.{silence}
-use Rattle.mix.specs.Mix.{gainAt}
+use Rattle.node.specs.Nodes.{gainAt}
 use Rattle.mix.specs.Loops.{rowSample}
 use Rattle.mix.proofs.Mixed.{samples-stored}
 use Rattle.mix.proofs.Rows.{from-silence}
