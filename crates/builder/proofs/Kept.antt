@@ -12,13 +12,14 @@ use Rattle.refusal.specs.declared.Answer.the-variants.{Accepted}
 use Rattle.lists.proofs.Stores.{take-sets, drop-sets}
 use Rattle.node.specs.Sizes.{nodeFloats, nodeWords}
 use Rattle.node.specs.Nodes.{newNode}
+use Rattle.node.specs.Nodes.{silence}
 use Rattle.node.specs.Areas.{floatsOf, wordsOf}
 use Rattle.node.proofs.Kept.{full-new}
 use Rattle.node.proofs.Areas.{length-floats}
 use Rattle.plan.specs.declared.Plan.{Plan}
 use Rattle.plan.specs.Limits.{Limits}
 use Rattle.builder.specs.Growth.{buffersGrowth, coefficientsGrowth, nodeGrowth, stepGrowth}
-use Rattle.builder.specs.Calls.{numbersFrom, recordLength, silence, finishAnswer, finishArea}
+use Rattle.builder.specs.Calls.{numbersFrom, recordLength, finishAnswer, finishArea}
 use Rattle.builder.specs.Built.{Call, buffers, coefficients, node, step, State, answer, after, KeptPart, Kept}
 use Rattle.builder.proofs.Numbers.{length-numbers}
 use Rattle.builder.proofs.Fits.{step-fits}

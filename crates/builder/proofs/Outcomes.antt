@@ -10,12 +10,12 @@ use Rattle.refusal.specs.declared.Refusal.{Refusal}
 use Rattle.refusal.specs.declared.Answer.{Answer}
 use Rattle.refusal.specs.declared.Answer.the-variants.{Accepted, Refused}
 use Rattle.refusal.proofs.Laws.{outcome-accepted, refused-keeps}
-use Rattle.node.specs.Nodes.{newNode}
+use Rattle.node.specs.Nodes.{silence, newNode}
 use Rattle.node.specs.Areas.{storedFloats, storedWords}
 use Rattle.plan.specs.declared.Plan.{Plan}
 use Rattle.plan.specs.Limits.{Limits}
 use Rattle.builder.specs.Growth.{Growth, grown}
-use Rattle.builder.specs.Calls.{planAfter, numbersFrom, buffersAnswer, buffersIndices, coefficientsAnswer, coefficientsArea, nodeAnswer, nodeFloatsArea, nodeWordsArea, recordLength, stepAnswer, stepArea, silence, finishAnswer, finishArea}
+use Rattle.builder.specs.Calls.{planAfter, numbersFrom, buffersAnswer, buffersIndices, coefficientsAnswer, coefficientsArea, nodeAnswer, nodeFloatsArea, nodeWordsArea, recordLength, stepAnswer, stepArea, finishAnswer, finishArea}
 
 module _ {answer : Answer} (p : Plan) (g : Growth) where
   pub plan-refused : {r : Refusal} → answer ≡ Refused r → planAfter answer p g ≡ p

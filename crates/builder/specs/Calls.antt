@@ -6,13 +6,13 @@ use mathlib.Core.List.{List, [], _∷_}
 use lib.Dec.{ltb, leb}
 use lib.ListN.{length, getD, take, replicate}
 use lib.Seq.{sets}
-use lib.Ieee.{Float, binary32, ofBits}
+use lib.Ieee.{Float}
 use Rattle.refusal.specs.Numbers.{blockLength, shortArea, unreadableStep, overLimit, tooManyValues, idTaken, longRamp}
 use Rattle.refusal.specs.Tests.{Test, test, first, outcome, areaAfter}
 use Rattle.refusal.specs.declared.Answer.{Answer}
 use Rattle.refusal.specs.declared.Answer.the-variants.{Accepted}
 use Rattle.node.specs.Sizes.{maxValues, rampTooLong}
-use Rattle.node.specs.Nodes.{newNode}
+use Rattle.node.specs.Nodes.{silence, newNode}
 use Rattle.node.specs.Areas.{storedFloats, storedWords}
 use Rattle.plan.specs.declared.Plan.{Plan}
 use Rattle.plan.specs.declared.Span.{Span}
@@ -181,9 +181,6 @@ finishTests l p len =
 
 unfoldable pub finishAnswer : Limits → Plan → ℕ → Answer
 finishAnswer l p len = first (finishTests l p len) Accepted
-
-abbrev pub silence : Float
-silence = ofBits binary32 0
 
 -- the buffers are zero, and what lies past them stays
 unfoldable pub finishArea : Limits → Plan → List Float → List Float

@@ -3,8 +3,9 @@ ghost use mathlib.Core.Path.{_≡_};
 ghost use Prim.Native.Nat.{_+_, _≤_};
 ghost use lib.ListN.{length, take, replicate};
 ghost use lib.Seq.{sets};
+ghost use Rattle.node.specs.Nodes.{silence};
 ghost use Rattle.plan.specs.Limits.{unitLimits};
-ghost use Rattle.builder.specs.Calls.{numbersFrom, silence};
+ghost use Rattle.builder.specs.Calls.{numbersFrom};
 
 // n numbers from `from` on, stored from place `at` on. Requires numbers of buffers, and room for them.
 pub fn put_numbers(from: usize, n: usize, at: usize, indices: &mut [u32])

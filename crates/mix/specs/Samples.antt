@@ -3,11 +3,8 @@ use Prim.Native.Nat.{ℕ, zero, suc, _+_, _*_}
 use mathlib.Core.List.{List, [], _∷_, _++_}
 use lib.ListN.{getD}
 use lib.Seq.{sets}
-use lib.Ieee.{Float, nan, binary32, ofBits}
-
--- +0
-abbrev pub silence : Float
-silence = ofBits binary32 0
+use lib.Ieee.{Float, nan}
+pub use Rattle.node.specs.Nodes.{silence}
 
 -- sample k of buffer i: "Buffer i is the part of the buffer area from i × block to (i + 1) × block"
 abbrev pub sample : ℕ → List Float → ℕ → ℕ → Float

@@ -6,7 +6,7 @@ use mathlib.Core.List.{List}
 use lib.Dec.{eqb, ltb}
 use lib.IntN.{pos}
 use lib.ListN.{length, getD, replicate}
-use lib.Ieee.{Float, nan, binary32, add, sub, mul, div, ofInt}
+use lib.Ieee.{Float, nan, binary32, add, sub, mul, div, ofInt, ofBits}
 use Rattle.lists.specs.Parts.{upto}
 use Rattle.node.specs.Sizes.{maxValues}
 use Rattle.node.specs.declared.Node.{Node}
@@ -16,6 +16,10 @@ use Rattle.node.specs.declared.Gain.the-variants.{Rest, Moving}
 -- a whole number as an f32
 abbrev pub f32 : ℕ → Float
 f32 n = ofInt binary32 (pos n)
+
+-- +0: every sample of silence
+abbrev pub silence : Float
+silence = ofBits binary32 0
 
 -- place i of a row
 abbrev pub at : List Float → ℕ → Float

@@ -7,7 +7,7 @@ use native.Mathlib.Nat.{zero-add}
 use lib.Seq.{sets}
 use lib.Ieee.{nan}
 use Rattle.lists.proofs.Stores.{stores-turn, stores-length, stores-all}
-use Rattle.builder.specs.Calls.{silence}
+use Rattle.node.specs.Nodes.{silence}
 use Rattle.builder.proofs.areas.put_zeros.Statement.{statement}
 use Rattle.builder.proofs.areas.put_zeros.Tie as tie
 
