@@ -8,9 +8,10 @@ use lib.Seq.{sets}
 use lib.Ieee.{Float, nan, binary32, add, mul}
 use Rattle.node.specs.declared.Gain.{Gain}
 use Rattle.node.specs.declared.Gain.the-variants.{Rest, Moving}
+use Rattle.node.specs.Sizes.{maxRamp}
 use Rattle.node.specs.Nodes.{factor}
 use Rattle.mix.specs.Samples.{sample, sampled}
-use Rattle.mix.specs.Mix.{maxBlock, added}
+use Rattle.mix.specs.Mix.{added}
 
 -- the samples before n are all on the ramp of a gain that moves
 unfoldable pub ramping : Gain → ℕ → Bool
@@ -44,4 +45,4 @@ pub record Piece (from to m k : ℕ) (area : List Float) : Type 0 where
   pub source : from + m ≤ length area
   pub target : to + m ≤ length area
   pub short : m ≤ 16
-  pub within : k + m ≤ maxBlock
+  pub within : k + m ≤ maxRamp

@@ -9,6 +9,7 @@ use lib.Seq.{sets}
 use lib.Ieee.{Float, nan, binary32, add, mul, eq}
 use Rattle.node.specs.declared.Gain.{Gain}
 use Rattle.node.specs.declared.Gain.the-variants.{Rest, Moving}
+use Rattle.node.specs.Sizes.{maxRamp}
 use Rattle.node.specs.Nodes.{factor}
 use Rattle.mix.specs.Samples.{silence, sample, sampled, put}
 
@@ -94,11 +95,7 @@ unfoldable pub appended : ℕ → List Float → List ℕ → ℕ → List Float
 appended block area [] from output = output
 appended block area (s ∷ src) from output = appended block area src (from + block) (sets output from (sampled block (λ k. sample block area s k)))
 
--- ---- what the sample loops take for granted
-
--- the samples of the longest block
-abbrev pub maxBlock : ℕ
-maxBlock = 1024
+-- ---- what the sample loops take for granted. A block is no longer than the longest ramp, so that an f32 holds the number of each sample.
 
 -- a buffer that lies within the area
 abbrev pub Inside : ℕ → ℕ → List Float → Type 0
@@ -114,21 +111,21 @@ NotIn b list = (i : ℕ) → i < length list → b ≡ getD list i 0 → ⊥
 
 -- one buffer into another
 pub record Pair (block s d : ℕ) (area : List Float) : Type 0 where
-  pub small : block ≤ maxBlock
+  pub small : block ≤ maxRamp
   pub source : Inside block s area
   pub target : Inside block d area
   pub apart : s ≡ d → ⊥
 
 -- the buffers of src into another
 pub record Row (block : ℕ) (src : List ℕ) (d : ℕ) (area : List Float) : Type 0 where
-  pub small : block ≤ maxBlock
+  pub small : block ≤ maxRamp
   pub sources : AllInside block src area
   pub target : Inside block d area
   pub apart : NotIn d src
 
 -- the buffers of src into those of dst
 pub record Buffers (block : ℕ) (src dst : List ℕ) (area : List Float) : Type 0 where
-  pub small : block ≤ maxBlock
+  pub small : block ≤ maxRamp
   pub sources : AllInside block src area
   pub targets : AllInside block dst area
   pub apart : (i : ℕ) → i < length src → NotIn (getD src i 0) dst

@@ -5,9 +5,10 @@ ghost use Prim.Native.Nat.{ℕ, _+_, _≤_, _<_};
 ghost use mathlib.Core.Bool.{true, cond};
 ghost use lib.ListN.{length, getD};
 ghost use lib.Ieee.{nan};
+ghost use Rattle.node.specs.Sizes.{maxRamp};
 ghost use Rattle.node.specs.Nodes.{factor};
 ghost use Rattle.mix.specs.Samples.{silence, sampled};
-ghost use Rattle.mix.specs.Mix.{maxBlock, silent, scaled};
+ghost use Rattle.mix.specs.Mix.{silent, scaled};
 ghost use Rattle.mix.specs.Loops.{ramping, plusScaled, plusWeighted, mixedInto};
 
 // One of two values. Both are worked out before, so that LLVM makes a select of it and the sample loops stay without a branch.
@@ -28,9 +29,9 @@ fn on_ramp(g: Gain, n: usize) -> bool
 }
 
 // `Gain::factor` for the sample loops: a cast from i32 is fast, and where the whole piece is on the ramp, no sample asks whether it is.
-// Requires a sample of a block, and that it is on the ramp where the whole piece is said to be.
+// Requires a k below the longest ramp, and that it is on the ramp where the whole piece is said to be.
 fn at(g: Gain, k: u32, whole: bool) -> f32
-    requires { ⌜ (k < maxBlock) × (whole ≡ true → ramping g (k + 1) ≡ true) ⌝ }
+    requires { ⌜ (k < maxRamp) × (whole ≡ true → ramping g (k + 1) ≡ true) ⌝ }
     ensures { λ r. ⌜ r ≡ factor g k ⌝ }
 {
     match g {
@@ -74,7 +75,7 @@ pub fn is_silent(g: Gain) -> bool
 
 // y[i] = x[i] * gain, where x starts at sample k. Requires at most 16 samples of a block.
 pub fn scale_samples(x: &[f32], y: &mut [f32; 16], k: usize, g: Gain)
-    requires { ⌜ (length (now x) ≤ 16) × (k + length (now x) ≤ maxBlock) ⌝ }
+    requires { ⌜ (length (now x) ≤ 16) × (k + length (now x) ≤ maxRamp) ⌝ }
     requires { ⌜ length (now y) ≡ 16 ⌝ }
     ensures { λ _. ⌜ length (now (y .exit)) ≡ 16 ⌝ }
     ensures { λ _. ⌜ now (y .exit) ≡ mixedInto (λ k x y. scaled g k x) k (length (now (x .entry))) (now (x .entry)) (now (y .entry)) ⌝ }
@@ -87,7 +88,7 @@ pub fn scale_samples(x: &[f32], y: &mut [f32; 16], k: usize, g: Gain)
 
 // y[i] += x[i] * gain, where x starts at sample k. Requires at most 16 samples of a block.
 pub fn add_samples(x: &[f32], y: &mut [f32; 16], k: usize, g: Gain)
-    requires { ⌜ (length (now x) ≤ 16) × (k + length (now x) ≤ maxBlock) ⌝ }
+    requires { ⌜ (length (now x) ≤ 16) × (k + length (now x) ≤ maxRamp) ⌝ }
     requires { ⌜ length (now y) ≡ 16 ⌝ }
     ensures { λ _. ⌜ length (now (y .exit)) ≡ 16 ⌝ }
     ensures { λ _. ⌜ now (y .exit) ≡ mixedInto (plusScaled g) k (length (now (x .entry))) (now (x .entry)) (now (y .entry)) ⌝ }
@@ -100,7 +101,7 @@ pub fn add_samples(x: &[f32], y: &mut [f32; 16], k: usize, g: Gain)
 
 // y[i] += x[i] * w * gain, where x starts at sample k. Requires at most 16 samples of a block.
 pub fn weigh_samples(x: &[f32], y: &mut [f32; 16], k: usize, w: f32, g: Gain)
-    requires { ⌜ (length (now x) ≤ 16) × (k + length (now x) ≤ maxBlock) ⌝ }
+    requires { ⌜ (length (now x) ≤ 16) × (k + length (now x) ≤ maxRamp) ⌝ }
     requires { ⌜ length (now y) ≡ 16 ⌝ }
     ensures { λ _. ⌜ length (now (y .exit)) ≡ 16 ⌝ }
     ensures { λ _. ⌜ now (y .exit) ≡ mixedInto (plusWeighted w g) k (length (now (x .entry))) (now (x .entry)) (now (y .entry)) ⌝ }

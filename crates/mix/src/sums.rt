@@ -9,16 +9,17 @@ ghost use Prim.Native.Nat.{ℕ, _+_, _*_, _≤_, _<_};
 ghost use lib.ListN.{length, getD};
 ghost use lib.Ieee.{nan};
 ghost use lib.Seq.{sets};
+ghost use Rattle.node.specs.Sizes.{maxRamp};
 ghost use Rattle.node.specs.Nodes.{gainAt};
 ghost use Rattle.mix.specs.Samples.{silence, sampled};
-ghost use Rattle.mix.specs.Mix.{added, clearBuffer, columns, rows, maxBlock, Inside, AllInside, Row, Buffers, Values};
+ghost use Rattle.mix.specs.Mix.{added, clearBuffer, columns, rows, Inside, AllInside, Row, Buffers, Values};
 ghost use Rattle.mix.specs.Loops.{rowSample};
 
 // The m samples from p on added to the first m of t, by a gain from sample j on; a gain at rest equal to 0 is skipped. Requires at most 16
 // samples of a block, within the area.
 fn add_part(area: &[f32], p: usize, m: usize, t: &mut [f32; 16], j: usize, g: Gain)
     requires { ⌜ (p + m ≤ length (now area)) × (m ≤ 16) ⌝ }
-    requires { ⌜ (j + m ≤ maxBlock) × (length (now t) ≡ 16) ⌝ }
+    requires { ⌜ (j + m ≤ maxRamp) × (length (now t) ≡ 16) ⌝ }
     ensures { λ _. ⌜ length (now (t .exit)) ≡ 16 ⌝ }
     ensures { λ _. ⌜ ((i : ℕ) → i < m → getD (now (t .exit)) i nan ≡ added g (j + i) (getD (now (area .entry)) (p + i) nan) (getD (now (t .entry)) i nan)) ⌝ }
 {
@@ -44,7 +45,7 @@ fn sum_columns(
     m: usize,
 )
     requires { ⌜ Values (v + length (now src)) (now cur) (now step) (now target) ⌝ }
-    requires { ⌜ (j + m ≤ block) × (block ≤ maxBlock) × (m ≤ 16) × (length (now t) ≡ 16) ⌝ }
+    requires { ⌜ (j + m ≤ block) × (block ≤ maxRamp) × (m ≤ 16) × (length (now t) ≡ 16) ⌝ }
     requires { ⌜ AllInside block (now src) (now area) ⌝ }
     ensures { λ _. ⌜ length (now (t .exit)) ≡ 16 ⌝ }
     ensures { λ _. ⌜ ((i : ℕ) → i < m → getD (now (t .exit)) i nan ≡ rowSample block (gainAt (now (cur .entry)) (now (step .entry)) (now (target .entry)) left) v (now (src .entry)) (now (area .entry)) (j + i) (getD (now (t .entry)) i nan)) ⌝ }
@@ -72,7 +73,7 @@ fn sum_piece(
     m: usize,
 )
     requires { ⌜ Values (v + length (now src)) (now cur) (now step) (now target) ⌝ }
-    requires { ⌜ (j + m ≤ block) × (block ≤ maxBlock) × (m ≤ 16) × Inside block d (now area) ⌝ }
+    requires { ⌜ (j + m ≤ block) × (block ≤ maxRamp) × (m ≤ 16) × Inside block d (now area) ⌝ }
     requires { ⌜ AllInside block (now src) (now area) ⌝ }
     ensures { λ _. ⌜ now (area .exit) ≡ sets (now (area .entry)) (d * block + j) (sampled m (λ i. rowSample block (gainAt (now (cur .entry)) (now (step .entry)) (now (target .entry)) left) v (now (src .entry)) (now (area .entry)) (j + i) silence)) ⌝ }
 {

@@ -20,6 +20,7 @@ use Rattle.node.proofs.Bad.{none-bad-at}
 use Rattle.plan.specs.declared.Plan.{Plan}
 use Rattle.plan.specs.declared.Span.{Span}
 use Rattle.plan.specs.declared.Step.{Step}
+use Rattle.plan.specs.Limits.{maxBlock}
 use Rattle.plan.specs.Check.{someFrom, named, used, firstOf}
 use Rattle.plan.specs.Sound.{Within, IndexList, Disjoint}
 use Rattle.plan.proofs.Plans.{some-none}
@@ -47,11 +48,11 @@ module _ (p : Plan) (indices : List ℕ) (area : List Float) (l : IndexList p in
       buffer-inside (p .buffers) (p .block) (getD xs i 0) area (some-none (p .buffers) xs .0 low i k) r
 
   -- those of two spans that share none
-  pub spans-apart : (b : p .block ≤ mix.maxBlock) (s d : Span) → Within (p .indices) s → Within (p .indices) d
+  pub spans-apart : (b : p .block ≤ maxBlock) (s d : Span) → Within (p .indices) s → Within (p .indices) d
       → Disjoint (named indices s) (named indices d) → {xs ys : List ℕ} → xs ≡ named indices s → ys ≡ named indices d → Buffers (p .block) xs ys area
   spans-apart b s d hs hd a {xs} {ys} es ed =
       record {
-        small = b;
+        small = omega arith;
         sources = span-inside s hs es;
         targets = span-inside d hd ed;
         apart = λ i k j m q. a i j (rw es at k) (rw ed at m) (ap (λ (zs : List ℕ). getD zs i 0) (sym es) ∙ q ∙ ap (λ (zs : List ℕ). getD zs j 0) ed);

@@ -13,24 +13,24 @@ use mir.Val.{toZ}
 use mir.Facts.{toZ-pos}
 use Rattle.node.specs.declared.Gain.{Gain}
 use Rattle.node.specs.declared.Gain.the-variants.{Moving}
+use Rattle.node.specs.Sizes.{maxRamp}
 use Rattle.node.specs.Nodes.{factor}
 use Rattle.node.proofs.Casts.{exact}
-use Rattle.mix.specs.Mix.{maxBlock}
 use Rattle.mix.specs.Loops.{ramping}
 use Rattle.mix.proofs.samples.at.Statement.{statement}
 use Rattle.mix.proofs.samples.at.Tie as tie
 
 -- a small number as an i32
-signed : (n : ℕ) → n ≤ maxBlock → toZ w32 n ≡ pos n
+signed : (n : ℕ) → n ≤ maxRamp → toZ w32 n ≡ pos n
 signed n h = toZ-pos w32 (omega arith)
 
-signed-exact : (k i : ℕ) → k < maxBlock → i ≤ 1 → T (inFloat binary32 (toZ w32 (k + i)))
+signed-exact : (k i : ℕ) → k < maxRamp → i ≤ 1 → T (inFloat binary32 (toZ w32 (k + i)))
 signed-exact k i h l = rw (signed (k + i) (omega arith)) (exact (k + i) (omega arith))
 
 abbrev moved : Float → Float → ℕ → Float
 moved cur step k = add binary32 cur (mul binary32 step (ofInt binary32 (toZ w32 (k + 1))))
 
-module _ {g : Gain} {cur step t : Float} {left : ℕ} (e : g ≡ Moving cur step t left) (k : ℕ) (h : k < maxBlock) where
+module _ {g : Gain} {cur step t : Float} {left : ℕ} (e : g ≡ Moving cur step t left) (k : ℕ) (h : k < maxRamp) where
   on-it : ramping g (k + 1) ≡ true → moved cur step k ≡ factor g k
   unfolding factor ramping
   on-it r =
