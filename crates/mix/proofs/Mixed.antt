@@ -11,14 +11,14 @@ use lib.ListN.{length, getD, drop, set, length-take, length-drop}
 use lib.Seq.{sets, length-sets, getD-take, getD-drop}
 use lib.Ieee.{Float, nan}
 use borrow.Author.Tests.{le-leb, leb-true}
-use borrow.Rule.Slice.PartMut.{putMid, midOf}
+use borrow.Rule.Slice.PartMut.{midOf}
 use Rattle.lists.proofs.Stores.{getD-sets}
 use Rattle.node.specs.declared.Gain.{Gain}
 use Rattle.node.specs.declared.Gain.the-variants.{Rest, Moving}
 use Rattle.mix.specs.Samples.{sample, sampled, put}
 use Rattle.mix.specs.Mix.{Pair}
 use Rattle.mix.specs.Loops.{ramping, mixedInto, mixedAt}
-use Rattle.mix.proofs.Stored.{length-sampled, turn, run-more, stored-at, part-stored, sampled-same, none-stored}
+use Rattle.mix.proofs.Stored.{length-sampled, turn, run-more, stored-at, sampled-same, none-stored}
 use Rattle.mix.proofs.Put.{begun-other, begun-same}
 
 -- ---- a ramp that lasts to a sample lasts to every one before it
@@ -68,21 +68,20 @@ part-mixed f h k p m a t₀ {t} hp ht same e i l =
     ∙ same (k + i) (omega arith) (getD (midOf p (p + m - p) a) i nan) (getD t₀ i nan)
     ∙ ap (λ (v : Float). f (k + i) v (getD t₀ i nan)) (part-at a p m i l)
 
--- a part that is filled with samples H, which are those of F
-pub samples-stored : {H : ℕ → Float} (F : ℕ → Float) (a : List Float) (p m : ℕ) {ys : List Float} → p + m ≤ length a
-    → ys ≡ sampled (length (midOf p (p + m - p) a)) H → ((i : ℕ) → i < m → H i ≡ F i) → putMid p (p + m - p) a ys ≡ sets a p (sampled m F)
-samples-stored {H} F a p m h e same = part-stored H a p m h e ∙ ap (λ (l : List Float). sets a p l) (sampled-same m H F same)
+-- stores of samples H, which are those of F
+pub samples-stored : {H : ℕ → Float} (F : ℕ → Float) (a : List Float) (p m : ℕ) {b : List Float} → b ≡ sets a p (sampled m H)
+    → ((i : ℕ) → i < m → H i ≡ F i) → b ≡ sets a p (sampled m F)
+samples-stored {H} F a p m e same = e ∙ ap (λ (l : List Float). sets a p l) (sampled-same m H F same)
 
 -- a piece: the destination's samples go to a local, the source's are mixed into it, and it is stored
-pub piece-mixed : (f h : ℕ → Float → Float → Float) (from to m k : ℕ) (a t₀ : List Float) {t₁ t₂ ys : List Float}
+pub piece-mixed : (f h : ℕ → Float → Float → Float) (from to m k : ℕ) (a t₀ : List Float) {t₁ t₂ b : List Float}
     → from + m ≤ length a → to + m ≤ length a → m ≤ length t₀ → ((i : ℕ) → k ≤ i → (x y : Float) → h i x y ≡ f i x y)
     → t₁ ≡ mixedInto (λ k x y. x) 0 (length (midOf to (to + m - to) a)) (midOf to (to + m - to) a) t₀
     → t₂ ≡ mixedInto h k (length (midOf from (from + m - from) a)) (midOf from (from + m - from) a) t₁
-    → ys ≡ sampled (length (midOf to (to + m - to) a)) (λ i. getD t₂ i nan)
-    → putMid to (to + m - to) a ys ≡ mixedAt f from to m k a
+    → b ≡ sets a to (sampled m (λ i. getD t₂ i nan)) → b ≡ mixedAt f from to m k a
 piece-mixed f h from to m k a t₀ {t₁} {t₂} hf ht h₀ same e₁ e₂ e₃ =
     let n : length t₁ ≡ length t₀ = ap length e₁ ∙ length-mixed (λ k x y. x) 0 (midOf to (to + m - to) a) t₀ (length (midOf to (to + m - to) a)) in
-    samples-stored (λ i. f (k + i) (getD a (from + i) nan) (getD a (to + i) nan)) a to m ht e₃
+    samples-stored (λ i. f (k + i) (getD a (from + i) nan) (getD a (to + i) nan)) a to m e₃
     (λ i l. part-mixed f h k from m a t₁ hf (omega arith) same e₂ i l
     ∙ ap (λ (v : Float). f (k + i) (getD a (from + i) nan) v) (part-mixed (λ k x y. x) (λ k x y. x) 0 to m a t₀ ht h₀ (λ i l x y. refl) e₁ i l))
 

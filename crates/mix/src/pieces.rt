@@ -19,7 +19,7 @@ fn scale_piece(area: &mut [f32], from: usize, to: usize, m: usize, k: usize, g: 
 {
     let mut t = [0.0f32; 16];
     scale_samples(&area[from..from + m], &mut t, k, later(g, k as u32));
-    store(&t, &mut area[to..to + m]);
+    store(&t, area, to, m);
 }
 
 // d = s × gain. Requires two different buffers within the area, and a block that is not too long.
@@ -48,7 +48,7 @@ fn add_piece(area: &mut [f32], from: usize, to: usize, m: usize, k: usize, g: Ga
     let mut t = [0.0f32; 16];
     load(&area[to..to + m], &mut t);
     add_samples(&area[from..from + m], &mut t, k, later(g, k as u32));
-    store(&t, &mut area[to..to + m]);
+    store(&t, area, to, m);
 }
 
 // d += s × gain. Requires as `scale_into`.
@@ -77,7 +77,7 @@ fn weigh_piece(area: &mut [f32], from: usize, to: usize, m: usize, k: usize, w: 
     let mut t = [0.0f32; 16];
     load(&area[to..to + m], &mut t);
     weigh_samples(&area[from..from + m], &mut t, k, w, later(g, k as u32));
-    store(&t, &mut area[to..to + m]);
+    store(&t, area, to, m);
 }
 
 // d += s × w × gain. Requires as `scale_into`.

@@ -4,6 +4,7 @@ ghost use mathlib.Core.Path.{_≡_};
 ghost use Prim.Native.Nat.{ℕ, _+_, _≤_, _<_};
 ghost use mathlib.Core.Bool.{true, cond};
 ghost use lib.ListN.{length, getD};
+ghost use lib.Seq.{sets};
 ghost use lib.Ieee.{nan};
 ghost use Rattle.node.specs.Sizes.{maxRamp};
 ghost use Rattle.node.specs.Nodes.{factor};
@@ -124,13 +125,13 @@ pub fn load(x: &[f32], y: &mut [f32; 16])
     }
 }
 
-// y becomes the start of x. Requires at most 16 samples.
-pub fn store(x: &[f32; 16], y: &mut [f32])
-    requires { ⌜ length (now y) ≤ 16 ⌝ }
-    requires { ⌜ length (now x) ≡ 16 ⌝ }
-    ensures { λ _. ⌜ now (y .exit) ≡ sampled (length (now (y .entry))) (λ i. getD (now (x .entry)) i nan) ⌝ }
+// The first m of t, in the area from `to` on. Requires at most 16 samples, within the area.
+pub fn store(t: &[f32; 16], area: &mut [f32], to: usize, m: usize)
+    requires { ⌜ (to + m ≤ length (now area)) × (m ≤ 16) ⌝ }
+    requires { ⌜ length (now t) ≡ 16 ⌝ }
+    ensures { λ _. ⌜ now (area .exit) ≡ sets (now (area .entry)) to (sampled m (λ i. getD (now (t .entry)) i nan)) ⌝ }
 {
-    copy(&x[..], y);
+    copy(&t[..], &mut area[to..to + m]);
 }
 
 // y becomes the start of x. Requires an x that is long enough.

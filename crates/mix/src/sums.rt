@@ -91,8 +91,7 @@ fn sum_piece(
         j,
         m,
     );
-    let q = d * block + j;
-    store(&t, &mut area[q..q + m]);
+    store(&t, area, d * block + j, m);
 }
 
 // One row: buffer d, by the gains from value v on. Requires sources and d within the area, d none of them, a value for each source, and a

@@ -7,6 +7,7 @@ use borrow.Author.Needs.{needs}
 use Rattle.mix.specs.Samples.{sample}
 use Rattle.mix.specs.Mix.{appended}
 use Rattle.mix.proofs.Put.{ends-before}
+use Rattle.mix.proofs.Stored.{part-stored}
 use Rattle.mix.proofs.Mixed.{part-at, samples-stored}
 use Rattle.mix.proofs.Turns.{buffer-appended, buffers-appended, no-buffer}
 use Rattle.mix.proofs.buffers.append.Statement.{statement}
@@ -86,8 +87,9 @@ loop-again c =
       search needs,
       search needs,
       buffer-appended (a .block) (a .area .now) (a .src .now) (a .at) (l .c) (l .output) (search needs) (l .inv .2)
-          (samples-stored (λ k. sample (a .block) (a .area .now) s k) (l .output) (a .at + l .c * a .block) (a .block) (omega (arith, ends-before {i = c .before .before .before .before .before .before .before .loop .c} {j = length (c .before .before .before .before .before .before .before .before .before .before .before .args .src .now)} (c .before .before .before .before .before .before .before .before .before .before .before .args .block) (c .before .before .before .before .before .before .loop-test .taken)))
-          (c .before .before .copy .ensures)
+          (samples-stored (λ k. sample (a .block) (a .area .now) s k) (l .output) (a .at + l .c * a .block) (a .block)
+          (part-stored _ (l .output) (a .at + l .c * a .block) (a .block) (omega (arith, ends-before {i = c .before .before .before .before .before .before .before .loop .c} {j = length (c .before .before .before .before .before .before .before .before .before .before .before .args .src .now)} (c .before .before .before .before .before .before .before .before .before .before .before .args .block) (c .before .before .before .before .before .before .loop-test .taken)))
+          (c .before .before .copy .ensures))
           (λ i h. part-at (a .area .now) (s * a .block) (a .block) i h)),
     )
 

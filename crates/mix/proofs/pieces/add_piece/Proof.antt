@@ -50,21 +50,6 @@ later-requires c κs = search needs
 add-samples-requires : tie.Need-add-samples-requires
 add-samples-requires c κs = search needs
 
-add-store : tie.Need-add-store
-add-store c = search needs
-
-mul-store : tie.Need-mul-store
-mul-store c = search needs
-
-sub-store : tie.Need-sub-store
-sub-store c = search needs
-
-part-store-start : tie.Need-part-store-start
-part-store-start c = search needs
-
-part-store-end : tie.Need-part-store-end
-part-store-end c = search needs
-
 store-requires : tie.Need-store-requires
 store-requires c κs = search needs
 
@@ -100,11 +85,6 @@ add-piece-spec =
     cast-later
     later-requires
     add-samples-requires
-    add-store
-    mul-store
-    sub-store
-    part-store-start
-    part-store-end
     store-requires
     same-length
     returns)

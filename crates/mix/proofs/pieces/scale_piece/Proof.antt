@@ -34,21 +34,6 @@ later-requires c κs = search needs
 scale-samples-requires : tie.Need-scale-samples-requires
 scale-samples-requires c κs = search needs
 
-add-store : tie.Need-add-store
-add-store c = search needs
-
-mul-store : tie.Need-mul-store
-mul-store c = search needs
-
-sub-store : tie.Need-sub-store
-sub-store c = search needs
-
-part-store-start : tie.Need-part-store-start
-part-store-start c = search needs
-
-part-store-end : tie.Need-part-store-end
-part-store-end c = search needs
-
 store-requires : tie.Need-store-requires
 store-requires c κs = search needs
 
@@ -60,7 +45,7 @@ returns c =
     let a = c .before .before .before .before .before .before .before .before .before .before .before .args in
     let p = c .before .before .before .before .before .before .before .before .before .before .before .pre in
     let g = c .before .before .before .before .before .before .later in
-    samples-stored (λ i. scaled (a .g) (a .k + i) (getD (a .area .now) (a .from + i) nan)) (a .area .now) (a .to) (a .m) (p .target) (c .before .before .store .ensures)
+    samples-stored (λ i. scaled (a .g) (a .k + i) (getD (a .area .now) (a .from + i) nan)) (a .area .now) (a .to) (a .m) (c .before .before .store .ensures)
     (part-mixed (λ k x y. scaled (a .g) k x) (λ k x y. scaled (g .result) k x) (a .k) (a .from) (a .m) (a .area .now) _ (p .source) (search needs)
     (λ i h x y. ap (λ (v : Float). mul binary32 x v) (g .ensures i h))
     (c .before .before .before .before .before .scale-samples .ensures .1))
@@ -77,11 +62,6 @@ scale-piece-spec =
     cast-later
     later-requires
     scale-samples-requires
-    add-store
-    mul-store
-    sub-store
-    part-store-start
-    part-store-end
     store-requires
     same-length
     returns)

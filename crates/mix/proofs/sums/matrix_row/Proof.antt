@@ -5,8 +5,8 @@ use native.Mathlib.Omega.{arith}
 use lib.ListN.{length}
 use lib.Seq.{sets}
 use borrow.Author.Needs.{needs}
-use Rattle.mix.specs.Samples.{silence, sampled}
 use Rattle.node.specs.Nodes.{gainAt}
+use Rattle.mix.specs.Samples.{silence, sampled}
 use Rattle.mix.specs.Loops.{rowSample}
 use Rattle.mix.proofs.Rows.{row-start, row-piece, row-piece-of-16, row-done}
 use Rattle.mix.proofs.sums.matrix_row.Statement.{statement}

@@ -3,8 +3,7 @@ use Prim.Native.Nat.{ℕ, _+_, _*_}
 use native.Mathlib.Omega.{arith}
 use lib.Ieee.{Float}
 use borrow.Author.Needs.{needs}
-use Rattle.mix.specs.Samples.{silence}
-use Rattle.node.specs.Nodes.{gainAt}
+use Rattle.node.specs.Nodes.{silence, gainAt}
 use Rattle.mix.specs.Loops.{rowSample}
 use Rattle.mix.proofs.Mixed.{samples-stored}
 use Rattle.mix.proofs.Rows.{from-silence}
@@ -14,26 +13,11 @@ use Rattle.mix.proofs.sums.sum_piece.Tie as tie
 sum-columns-requires : tie.Need-sum-columns-requires
 sum-columns-requires c κs = let p = c .before .before .before .before .before .before .before .pre in (p .0, ((p .1 .0 .0, p .1 .0 .1, p .1 .0 .2, search needs), p .1 .1))
 
-mul-q : tie.Need-mul-q
-mul-q c = search needs
-
-add-q : tie.Need-add-q
-add-q c = search needs
-
-add-store : tie.Need-add-store
-add-store c = search needs
-
 mul-store : tie.Need-mul-store
 mul-store c = search needs
 
-sub-store : tie.Need-sub-store
-sub-store c = search needs
-
-part-store-start : tie.Need-part-store-start
-part-store-start c = search needs
-
-part-store-end : tie.Need-part-store-end
-part-store-end c = search needs
+add-store : tie.Need-add-store
+add-store c = search needs
 
 store-requires : tie.Need-store-requires
 store-requires c κs = search needs
@@ -45,7 +29,7 @@ returns : tie.Need-returns
 returns c =
     let a = c .before .before .before .before .before .before .before .before .before .before .before .before .before .args in
     let f : ℕ → Float → Float = λ k. rowSample (a .block) (gainAt (a .cur .now) (a .step .now) (a .target .now) (a .left)) (a .v) (a .src .now) (a .area .now) (a .j + k) in
-    samples-stored (λ k. f k silence) (a .area .now) (a .d * a .block + a .j) (a .m) (search needs) (c .before .before .store .ensures)
+    samples-stored (λ k. f k silence) (a .area .now) (a .d * a .block + a .j) (a .m) (c .before .before .store .ensures)
     (from-silence f (a .m) (search needs) (c .before .before .before .before .before .sum-columns .ensures .1))
 
 pub sum-piece-spec : {M : Type 1} → statement M
@@ -53,13 +37,8 @@ sum-piece-spec =
     tie.close
     (tie.spec
     sum-columns-requires
-    mul-q
-    add-q
-    add-store
     mul-store
-    sub-store
-    part-store-start
-    part-store-end
+    add-store
     store-requires
     same-length
     returns)
