@@ -1,3 +1,2 @@
--- The laws of the comparisons and of floats with their bits.
-pub mod Alike
-pub mod Bits
+-- The laws of the lent areas.
+pub mod Fronts

@@ -1,2 +1,2 @@
--- What the comparisons speak of.
+-- What the contracts of the lent areas speak of.
 pub mod Lists

@@ -1,14 +1,8 @@
--- Lists that are alike up to a place, and their fronts. Definitions only.
+-- Fronts of lists. Definitions only.
 use Prim.Native.Nat.{ℕ, _≤_}
 use mathlib.Core.Path.{_≡_}
 use mathlib.Core.List.{List}
 use lib.ListN.{length, take}
-
--- Both lists reach to place n, and have the same entries before it.
-pub record AlikeTo (n : ℕ) (xs ys : List ℕ) : Type 0 where
-  pub first : n ≤ length xs
-  pub second : n ≤ length ys
-  pub alike : take n xs ≡ take n ys
 
 -- A list has a front of n entries. The second part follows from the first; both are stated so that the proof that Rattle makes of `&list[..n]` finds them.
 abbrev pub Front : {A : Type 0} → ℕ → List A → Type 0

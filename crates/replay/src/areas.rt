@@ -1,6 +1,6 @@
 // The areas that are lent to a call, filled from the words of the file.
 use crate::data::area;
-use crate::floats;
+use comparison::floats;
 ghost use mathlib.Core.Path.{_≡_};
 ghost use lib.ListN.{length};
 

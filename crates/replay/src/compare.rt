@@ -1,17 +1,15 @@
 // What a call gave, beside what the file has. Each comparison writes the first difference to the standard output.
 use crate::data;
 use crate::data::area;
-use crate::floats;
 use crate::text;
+use comparison::Comparison;
+use comparison::floats;
 use plan::Plan;
 use plan::Span;
 use refusal::Answer;
 use refusal::Refusal;
 ghost use mathlib.Core.Path.{_≡_};
-ghost use mathlib.Core.Bool.{true};
-ghost use lib.Ieee.{binary32, toBits};
-ghost use mathlib.Core.List.{map};
-ghost use Rattle.replay.specs.Lists.{AlikeTo};
+ghost use Rattle.comparison.specs.Lists.{word, sample, compared};
 
 fn differs(what: &[u8], reference: u32, here: u32) {
     text::put(what);
@@ -67,44 +65,22 @@ pub fn double(what: &[u8], reference: u64, here: f64) -> bool {
     long(what, reference, floats::bits_of_double(here))
 }
 
-// The first place where two lists differ, or the length of the shorter one.
-fn unlike_words(reference: &[u32], here: &[u32]) -> usize
-    ensures { λ r. ⌜ AlikeTo r (now (reference .entry)) (now (here .entry)) ⌝ }
+// Whether two lists are the same; if not, their words at the first difference are written.
+fn reported(what: &[u8], found: Comparison, reference: u32, here: u32) -> bool
+    ensures { λ r. ⌜ r ≡ found .same ⌝ }
 {
-    let mut i = 0;
-    while i < reference.len() && i < here.len() {
-        if reference[i] != here[i] {
-            return i;
-        }
-        i += 1;
+    if !found.same {
+        differs_at(what, found.place, reference, here);
     }
-    i
+    found.same
 }
 
 fn same_words(what: &[u8], reference: &[u32], here: &[u32]) -> bool
-    ensures { λ r. ⌜ (r ≡ true → now (reference .entry) ≡ now (here .entry)) ⌝ }
+    ensures { λ r. ⌜ r ≡ (compared word (now (reference .entry)) (now (here .entry))) .same ⌝ }
 {
-    let i = unlike_words(reference, here);
-    if reference.len() <= i {
-        if here.len() <= i {
-            return true;
-        }
-    }
-    differs_at(what, i, data::word(reference, i), data::word(here, i));
-    false
-}
-
-fn unlike_floats(reference: &[u32], here: &[f32]) -> usize
-    ensures { λ r. ⌜ AlikeTo r (now (reference .entry)) (map (toBits binary32) (now (here .entry))) ⌝ }
-{
-    let mut i = 0;
-    while i < reference.len() && i < here.len() {
-        if reference[i] != floats::bits_of(here[i]) {
-            return i;
-        }
-        i += 1;
-    }
-    i
+    let found = comparison::words(reference, here);
+    let i = found.place;
+    reported(what, found, data::word(reference, i), data::word(here, i))
 }
 
 fn bits_at(list: &[f32], i: usize) -> u32 {
@@ -115,55 +91,26 @@ fn bits_at(list: &[f32], i: usize) -> u32 {
 }
 
 fn same_samples(what: &[u8], reference: &[u32], here: &[f32]) -> bool
-    ensures { λ r. ⌜ (r ≡ true → now (reference .entry) ≡ map (toBits binary32) (now (here .entry))) ⌝ }
+    ensures { λ r. ⌜ r ≡ (compared sample (now (reference .entry)) (now (here .entry))) .same ⌝ }
 {
-    let i = unlike_floats(reference, here);
-    if reference.len() <= i {
-        if here.len() <= i {
-            return true;
-        }
-    }
-    differs_at(what, i, data::word(reference, i), bits_at(here, i));
-    false
-}
-
-fn wide(n: u16) -> u32
-    ensures { λ r. ⌜ r ≡ n ⌝ }
-{
-    n as u32
-}
-
-fn unlike_shorts(reference: &[u32], here: &[u16]) -> usize
-    ensures { λ r. ⌜ AlikeTo r (now (reference .entry)) (now (here .entry)) ⌝ }
-{
-    let mut i = 0;
-    while i < reference.len() && i < here.len() {
-        if reference[i] != wide(here[i]) {
-            return i;
-        }
-        i += 1;
-    }
-    i
+    let found = comparison::samples(reference, here);
+    let i = found.place;
+    reported(what, found, data::word(reference, i), bits_at(here, i))
 }
 
 fn short_at(list: &[u16], i: usize) -> u32 {
     if i < list.len() {
-        return wide(list[i]);
+        return comparison::wide(list[i]);
     }
     0
 }
 
 fn same_shorts(what: &[u8], reference: &[u32], here: &[u16]) -> bool
-    ensures { λ r. ⌜ (r ≡ true → now (reference .entry) ≡ now (here .entry)) ⌝ }
+    ensures { λ r. ⌜ r ≡ (compared word (now (reference .entry)) (now (here .entry))) .same ⌝ }
 {
-    let i = unlike_shorts(reference, here);
-    if reference.len() <= i {
-        if here.len() <= i {
-            return true;
-        }
-    }
-    differs_at(what, i, data::word(reference, i), short_at(here, i));
-    false
+    let found = comparison::shorts(reference, here);
+    let i = found.place;
+    reported(what, found, data::word(reference, i), short_at(here, i))
 }
 
 // A refusal; the record has its number and place, which are 0 where the call is accepted.

@@ -5,7 +5,7 @@ use crate::data;
 use crate::data::area;
 use crate::data::floats_in;
 use crate::data::word;
-use crate::floats;
+use comparison::floats;
 use fold::FoldGains;
 use format::Format;
 use format::Gains;

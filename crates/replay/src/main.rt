@@ -6,7 +6,6 @@ mod compare;
 mod counts;
 mod data;
 mod file;
-mod floats;
 mod folds;
 mod kinds;
 mod records;

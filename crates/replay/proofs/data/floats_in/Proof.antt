@@ -1,5 +1,5 @@
 -- `replay::data::floats_in` meets its contract. Assumes nothing.
-use Rattle.replay.proofs.Alike.{front}
+use Rattle.replay.proofs.Fronts.{front}
 use borrow.Author.Needs.{needs}
 use Rattle.replay.proofs.data.floats_in.Statement.{statement}
 use Rattle.replay.proofs.data.floats_in.Tie as tie

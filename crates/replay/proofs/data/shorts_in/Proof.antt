@@ -1,5 +1,5 @@
 -- `replay::data::shorts_in` meets its contract. Assumes nothing.
-use Rattle.replay.proofs.Alike.{front}
+use Rattle.replay.proofs.Fronts.{front}
 use borrow.Author.Needs.{needs}
 use Rattle.replay.proofs.data.shorts_in.Statement.{statement}
 use Rattle.replay.proofs.data.shorts_in.Tie as tie

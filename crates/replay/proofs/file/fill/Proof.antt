@@ -4,7 +4,7 @@ use mathlib.Core.Path.{_≡_}
 use lib.ListN.{length}
 use native.Mathlib.Omega.{arith}
 use borrow.Author.Needs.{needs}
-use Rattle.replay.proofs.Alike.{front}
+use Rattle.replay.proofs.Fronts.{front}
 use Rattle.replay.proofs.file.fill.Statement.{statement}
 use Rattle.replay.proofs.file.fill.Tie as tie
 

@@ -1,5 +1,5 @@
 -- `replay::file::room` meets its contract: by a law, since computing the list would be long. Assumes nothing.
-use Rattle.replay.proofs.Alike.{zeros}
+use Rattle.replay.proofs.Fronts.{zeros}
 use Rattle.replay.proofs.file.room.Statement.{statement}
 use Rattle.replay.proofs.file.room.Tie as tie
 

@@ -1,10 +1,10 @@
--- `replay::floats::bits_of` meets its contract. Assumes nothing.
+-- `comparison::floats::bits_of` meets its contract. Assumes nothing.
 use mathlib.Core.Path.{sym, ap}
 use lib.Ieee.{binary32, toBits}
-use Rattle.replay.proofs.Bits.{no-nan, is-nan}
+use Rattle.comparison.proofs.Bits.{no-nan, is-nan}
 use borrow.Author.Needs.{needs}
-use Rattle.replay.proofs.floats.bits_of.Statement.{statement}
-use Rattle.replay.proofs.floats.bits_of.Tie as tie
+use Rattle.comparison.proofs.floats.bits_of.Statement.{statement}
+use Rattle.comparison.proofs.floats.bits_of.Tie as tie
 
 returns : tie.Need-returns
 unfolding toBits

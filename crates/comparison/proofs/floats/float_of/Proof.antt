@@ -1,10 +1,10 @@
--- `replay::floats::float_of` meets its contract. Assumes nothing.
+-- `comparison::floats::float_of` meets its contract. Assumes nothing.
 use mathlib.Core.Path.{_≡_, sym, _∙_}
 use lib.Ieee.{nan, binary32, div, ofBits}
-use Rattle.replay.proofs.Bits.{nan-read, number-read}
+use Rattle.comparison.proofs.Bits.{nan-read, number-read}
 use borrow.Author.Needs.{needs}
-use Rattle.replay.proofs.floats.float_of.Statement.{statement}
-use Rattle.replay.proofs.floats.float_of.Tie as tie
+use Rattle.comparison.proofs.floats.float_of.Statement.{statement}
+use Rattle.comparison.proofs.floats.float_of.Tie as tie
 
 returns : tie.Need-returns
 unfolding div ofBits

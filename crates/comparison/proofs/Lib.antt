@@ -1,0 +1,3 @@
+-- The laws of the comparisons and of floats with their bits.
+pub mod Alike
+pub mod Bits

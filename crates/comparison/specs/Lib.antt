@@ -1,0 +1,2 @@
+-- What the comparisons speak of.
+pub mod Lists
