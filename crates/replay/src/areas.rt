@@ -4,23 +4,26 @@ use comparison::floats;
 ghost use mathlib.Core.Path.{_≡_};
 ghost use lib.ListN.{length};
 
+// The longest area that a call is lent here: the lists of 32 slots, and some places behind them.
+pub const LONGEST: usize = 8200;
+
 // Room for the longest area. The `ensures` gives only the length, so that no proof looks at the zeros.
-pub fn word_room() -> [u32; 4608]
-    ensures { λ r. ⌜ 4608 ≡ length r ⌝ }
+pub fn word_room() -> [u32; LONGEST]
+    ensures { λ r. ⌜ 8200 ≡ length r ⌝ }
 {
-    [0; 4608]
+    [0; LONGEST]
 }
 
-pub fn float_room() -> [f32; 4608]
-    ensures { λ r. ⌜ 4608 ≡ length r ⌝ }
+pub fn float_room() -> [f32; LONGEST]
+    ensures { λ r. ⌜ 8200 ≡ length r ⌝ }
 {
-    [0.0; 4608]
+    [0.0; LONGEST]
 }
 
-pub fn short_room() -> [u16; 4608]
-    ensures { λ r. ⌜ 4608 ≡ length r ⌝ }
+pub fn short_room() -> [u16; LONGEST]
+    ensures { λ r. ⌜ 8200 ≡ length r ⌝ }
 {
-    [0; 4608]
+    [0; LONGEST]
 }
 
 // As many words as there are, to the front of an area.

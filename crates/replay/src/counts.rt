@@ -1,4 +1,5 @@
-// What was compared, as counts: records by kind at 1 to 22, refused calls by number at 33 to 49, then output samples and listed inputs.
+// What was compared, as counts: records by kind at 1 to 23, refused calls by number at 33 to 49, then output samples, the inputs of single
+// lists, and the slots of calls that list all.
 use crate::data;
 use crate::data::word;
 use crate::kinds;
@@ -9,6 +10,8 @@ const REFUSED: usize = 32;
 const SAMPLES: usize = 50;
 
 const INPUTS: usize = 51;
+
+const SLOTS: usize = 52;
 
 fn add(tally: &mut [u64], i: usize, n: u64) {
     if i < tally.len() {
@@ -22,15 +25,10 @@ fn refused(number: u32, tally: &mut [u64]) {
     }
 }
 
-fn samples(record: &[u32], tally: &mut [u64]) {
-    if word(record, 0) == kinds::PROCESS {
-        add(tally, SAMPLES, data::long(record, 33));
-    }
-}
-
-fn inputs(record: &[u32], tally: &mut [u64]) {
-    if word(record, 0) == kinds::OUTPUT_SOURCES {
-        add(tally, INPUTS, data::long(record, 18));
+// The count at words i and i + 1 of a record of a kind, to place `at`.
+fn counted(record: &[u32], kind: u32, i: u8, at: usize, tally: &mut [u64]) {
+    if word(record, 0) == kind {
+        add(tally, at, data::long(record, i));
     }
 }
 
@@ -38,8 +36,9 @@ fn inputs(record: &[u32], tally: &mut [u64]) {
 pub fn record(record: &[u32], tally: &mut [u64]) {
     add(tally, word(record, 0) as usize, 1);
     refused(word(record, 2), tally);
-    samples(record, tally);
-    inputs(record, tally);
+    counted(record, kinds::PROCESS, 33, SAMPLES, tally);
+    counted(record, kinds::OUTPUT_SOURCES, 18, INPUTS, tally);
+    counted(record, kinds::ALL_SOURCES, 21, SLOTS, tally);
 }
 
 fn at(tally: &[u64], i: usize) -> u64 {
@@ -81,5 +80,7 @@ pub fn report(tally: &[u64]) {
     text::whole(at(tally, SAMPLES));
     text::put(b" output samples, ");
     text::whole(at(tally, INPUTS));
-    text::put(b" inputs listed\n");
+    text::put(b" inputs listed, ");
+    text::whole(at(tally, SLOTS));
+    text::put(b" slots listed at once\n");
 }

@@ -29,21 +29,23 @@ pub const DIRECTORY_BAD: u32 = 13;
 
 pub const OUTPUT_SOURCES: u32 = 14;
 
-pub const CLEAN_ANSWER: u32 = 15;
+pub const ALL_SOURCES: u32 = 15;
 
-pub const ADOPT: u32 = 16;
+pub const CLEAN_ANSWER: u32 = 16;
 
-pub const LABELS: u32 = 17;
+pub const ADOPT: u32 = 17;
 
-pub const BALANCE_GAINS: u32 = 18;
+pub const LABELS: u32 = 18;
 
-pub const BALANCE_OF: u32 = 19;
+pub const BALANCE_GAINS: u32 = 19;
 
-pub const STEREO_MATRIX: u32 = 20;
+pub const BALANCE_OF: u32 = 20;
 
-pub const WIDTH_MATRIX: u32 = 21;
+pub const STEREO_MATRIX: u32 = 21;
 
-pub const TO_F32: u32 = 22;
+pub const WIDTH_MATRIX: u32 = 22;
+
+pub const TO_F32: u32 = 23;
 
 fn of_building(kind: u32) {
     match kind {
@@ -66,6 +68,7 @@ fn of_running(kind: u32) {
         LOOKUP => put(b"lookup"),
         DIRECTORY_BAD => put(b"directory_bad"),
         OUTPUT_SOURCES => put(b"output_sources"),
+        ALL_SOURCES => put(b"all_sources"),
         CLEAN_ANSWER => put(b"clean_answer"),
         _ => put(b"adopt"),
     }

@@ -1,4 +1,5 @@
 // The records one after the other: whether one is whole, the call of its kind, and the counts.
+use crate::areas::LONGEST;
 use crate::builds;
 use crate::counts;
 use crate::data;
@@ -9,11 +10,11 @@ use crate::runs;
 use crate::text;
 use crate::traces;
 
-// The longest area that a call is lent here.
-const LONGEST: usize = 4608;
+// One more than there are kinds, since they start at 1.
+const KINDS: usize = 24;
 
 // How many areas and how many numbers a record of a kind has.
-const AREAS: [u32; 23] = [
+const AREAS: [u32; KINDS] = [
     0,
     1,
     4,
@@ -29,6 +30,7 @@ const AREAS: [u32; 23] = [
     3,
     1,
     6,
+    8,
     4,
     7,
     0,
@@ -39,7 +41,7 @@ const AREAS: [u32; 23] = [
     0,
 ];
 
-const NUMBERS: [u32; 23] = [
+const NUMBERS: [u32; KINDS] = [
     0,
     2,
     4,
@@ -55,6 +57,7 @@ const NUMBERS: [u32; 23] = [
     2,
     3,
     2,
+    1,
     1,
     5,
     6,
@@ -91,7 +94,7 @@ fn length(areas: u32, numbers: u32) -> usize {
 // A record is of a kind that there is, has that kind's areas and numbers, and its areas lie in the file.
 fn whole(words: &[u32], record: &[u32]) -> bool {
     let kind = word(record, 0) as usize;
-    if kind >= 23 {
+    if kind >= KINDS {
         return false;
     }
     let areas = AREAS[kind];
@@ -123,6 +126,7 @@ fn ran(words: &[u32], record: &[u32], kind: u32) -> bool {
         kinds::LOOKUP => runs::lookup(words, record),
         kinds::DIRECTORY_BAD => runs::directory_bad(words, record),
         kinds::OUTPUT_SOURCES => traces::output_sources(words, record),
+        kinds::ALL_SOURCES => traces::all_sources(words, record),
         kinds::CLEAN_ANSWER => traces::clean_answer(words, record),
         kinds::ADOPT => runs::adopt(words, record),
         _ => false,

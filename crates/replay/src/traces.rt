@@ -5,13 +5,15 @@ use crate::compare;
 use crate::data::area;
 use crate::data::shorts_in;
 use crate::data::word;
+use crate::data::words_in;
 use trace::CleanAnswer;
 use trace::Sources;
 
-fn listed(record: &[u32], answer: Sources) -> bool {
+// The answer of a trace; its count is word i of the record.
+fn listed(record: &[u32], i: u8, answer: Sources) -> bool {
     match answer {
         Sources::Listed(n) => compare::accepted(record)
-            && compare::number(b"inputs listed", word(record, 18), n),
+            && compare::number(b"count", word(record, i as usize), n),
         Sources::Refused(r) => compare::refused(record, r),
     }
 }
@@ -22,7 +24,7 @@ fn sources(words: &[u32], record: &[u32], list: &mut [u16]) -> bool {
     let node_words = area(words, record, 2);
     let steps = area(words, record, 3);
     let answer = trace::output_sources(plan, word(record, 17), indices, node_words, steps, list);
-    listed(record, answer) && compare::shorts_left(b"source list", words, record, 5, list)
+    listed(record, 18, answer) && compare::shorts_left(b"source list", words, record, 5, list)
 }
 
 fn sources_in(words: &[u32], record: &[u32], list: &mut [u16]) -> bool {
@@ -35,6 +37,32 @@ pub fn output_sources(words: &[u32], record: &[u32]) -> bool {
     let mut list = areas::short_room();
     let n = shorts_in(record, 4, &list);
     sources_in(words, record, &mut list[..n])
+}
+
+fn all(words: &[u32], record: &[u32], counts: &mut [u32], lists: &mut [u16]) -> bool {
+    let plan = plan_in(words, record, 0);
+    let indices = area(words, record, 1);
+    let node_words = area(words, record, 2);
+    let steps = area(words, record, 3);
+    let answer = trace::all_sources(plan, indices, node_words, steps, counts, lists);
+    listed(record, 21, answer)
+        && compare::words_left(b"counts", words, record, 6, counts)
+        && compare::shorts_left(b"source lists", words, record, 7, lists)
+}
+
+fn all_in(words: &[u32], record: &[u32], counts: &mut [u32], lists: &mut [u16]) -> bool {
+    areas::load_words(words, record, 4, counts);
+    areas::load_shorts(words, record, 5, lists);
+    all(words, record, counts, lists)
+}
+
+// Areas: the record, the index list, the node words, the step words, the counts' and the lists' area, both after. Numbers: how many slots are listed.
+pub fn all_sources(words: &[u32], record: &[u32]) -> bool {
+    let mut counts = areas::word_room();
+    let mut lists = areas::short_room();
+    let n = words_in(record, 4, &counts);
+    let m = shorts_in(record, 5, &lists);
+    all_in(words, record, &mut counts[..n], &mut lists[..m])
 }
 
 fn clean(record: &[u32], answer: CleanAnswer) -> bool {

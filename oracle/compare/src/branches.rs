@@ -20,6 +20,7 @@ pub const REFUSALS: &[(Kind, &[u32])] = &[
     (SetParam, &[5, 2, 14, 8, 10, 9]),
     (Process, &[1, 5, 2, 4, 8, 3, 7, 6, 14, 12, 13]),
     (OutputSources, &[1, 5, 2, 4, 8, 3, 7, 6, 15]),
+    (AllSources, &[1, 5, 2, 4, 8, 3, 7, 6]),
     (CleanAnswer, &[1, 5, 2, 4, 8, 3, 7, 6]),
     (Adopt, &[5, 2, 11, 14, 10]),
     (BalanceGains, &[17]),
@@ -105,6 +106,15 @@ pub const BRANCHES: &[&str] = &[
     "a list of several inputs",
     "a list for a slot that no Output names",
     "a list with an input above 191",
+    "all lists of no slots",
+    "all lists of one slot",
+    "all lists of several slots",
+    "all lists, two of several inputs",
+    "all lists, a slot that no Output names",
+    "all lists, areas that just fit",
+    "all lists, areas longer than needed",
+    "all lists, the counts' area one place short",
+    "all lists, the lists' area one place short",
     "a clean plan",
     "a plan that is not clean",
     "an adopted node",
@@ -294,6 +304,17 @@ pub fn list(l: &Layout, slot: u32, list: &[u16]) -> Vec<&'static str> {
     let mut seen = vec![["a list of no inputs", "a list of one input", "a list of several inputs"][list.len().min(2)]];
     seen.extend((!named).then_some("a list for a slot that no Output names"));
     seen.extend(list.iter().any(|i| *i > 191).then_some("a list with an input above 191"));
+    seen
+}
+
+/// What the lists of all slots reach, in areas that are longer by this many places.
+pub fn lists(l: &Layout, lists: &[Vec<u16>], more: usize) -> Vec<&'static str> {
+    let named = |slot: usize| l.steps.iter().any(|s| matches!(s, Step::Output { slot: n, .. } if *n as usize == slot));
+    let count = ["all lists of no slots", "all lists of one slot", "all lists of several slots"][lists.len().min(2)];
+    let room = if more > 0 { "all lists, areas longer than needed" } else { "all lists, areas that just fit" };
+    let mut seen = vec![count, room];
+    seen.extend((lists.iter().filter(|list| list.len() > 1).count() > 1).then_some("all lists, two of several inputs"));
+    seen.extend((!(0..lists.len()).all(named)).then_some("all lists, a slot that no Output names"));
     seen
 }
 

@@ -14,6 +14,8 @@ const SEEDS: u64 = 20_000;
 const TIMES: u32 = 4;
 /// How many plans have their builder calls recorded.
 const BUILDS: u32 = 8;
+/// The lists of all slots are taken of a plan of at most this many slots.
+const SLOTS: usize = 4;
 
 const BLOCKS: [usize; 15] = [1, 1, 2, 3, 4, 5, 7, 8, 15, 16, 17, 24, 33, 40, 1024];
 
@@ -49,6 +51,15 @@ impl Recorder {
         }
     }
 
+    /// Adds the lists of all slots to a case, where they are wanted.
+    fn all_lists(&self, c: &mut Case, h: &Held, more: usize) {
+        let mut all = Case::default();
+        all.all_lists(h, more);
+        if self.wanted(&all) {
+            c.join(all);
+        }
+    }
+
     fn wanted(&self, c: &Case) -> bool {
         c.reached.iter().any(|name| self.reached.get(name).copied().unwrap_or(0) < often(name, TIMES))
     }
@@ -73,8 +84,7 @@ impl Recorder {
         rounds(&mut c, &mut g, &mut h);
         if g.r.percent(50) {
             let Some((more, mut new)) = self.built(&mut g, Some(&h.layout)) else { return };
-            c.records.extend(more.records);
-            c.reached.extend(more.reached);
+            c.join(more);
             let (pairs, ramp) = (g.pairs(new.layout.nodes.len(), h.layout.nodes.len()), g.ramp());
             c.adopt(&mut new, &mut h, &pairs, ramp);
             rounds(&mut c, &mut g, &mut new);
@@ -102,6 +112,9 @@ impl Recorder {
             c.records.retain(|r| r.kind == Kind::CheckPlan);
         }
         c.trace(g, &h);
+        if h.rust.output_sources.len() <= SLOTS {
+            self.all_lists(&mut c, &h, g.r.pick(&[0, 2]));
+        }
         Some((c, h))
     }
 
@@ -135,13 +148,13 @@ fn rounds(c: &mut Case, g: &mut Gen, h: &mut Held) {
 fn text(r: &Recorder) -> String {
     format!(
         "Answers of the Rust mixer (commit f575066b19) to calls of the plan engine and the folds, for the program `replay`.
-Made by `oracle record FILE` (oracle/README.md), which makes the same bytes each time.
+Made by `oracle record FILE` (oracle/README.md): the same bytes each time.
 Plans are those of {} of the seeds 1 to {SEEDS}, taken where they reach a branch that fewer than {TIMES} cases had reached.
 Samples, nodes, buffers, lists, balances, roundings and folds by its laws are the Rust's. What it lacks is the oracle's: lookups, refusals, the
 check and the clean answer by document 01, other folds by a table.
 
-After this text of 1,024 bytes: u32 words, the lowest byte first. Words 0 to 4: 5245504C (hexadecimal), version 1, words in all, records,
-the word at which the records start; before that the areas. A record: kind, length in words, refusal's number and place (0: accepted),
+After this text of 1,024 bytes: u32 words, the lowest byte first. Words 0 to 4: 5245504C (hexadecimal), version 2, words in all, records,
+where the records start; before that the areas. A record: kind, length in words, refusal's number and place (0: accepted),
 how many areas, for each its start and length in words, then the numbers of its kind (crates/replay/src has each kind's).
 Floats are their bits, all NaN 7FC00000; f64 and counts are two words, the lower one first.
 ",

@@ -7,6 +7,7 @@ use crate::paper;
 use crate::plan::{Areas, Call, Layout, NodeCall, Step, FLOATS, WORDS};
 use crate::rust::{self, PlanBuilder};
 use crate::tape::{bits, plan, size, Kind, Record};
+use crate::traced::PLACES;
 use reference::engine::plan::peek;
 
 /// A plan in the reference, and the areas that a caller of the port would have.
@@ -15,6 +16,9 @@ pub struct Held {
     pub rust: rust::Plan,
     pub areas: Areas,
 }
+
+/// What a list's area holds before a call.
+const FREE: u32 = 0xabcd;
 
 /// The records of one case, and what they reach.
 #[derive(Default)]
@@ -26,6 +30,11 @@ pub struct Case {
 impl Case {
     pub fn push(&mut self, kind: Kind, status: Status, areas: Vec<Vec<u32>>, numbers: Vec<u32>) {
         self.records.push(Record { kind, status, areas, numbers });
+    }
+
+    pub fn join(&mut self, other: Case) {
+        self.records.extend(other.records);
+        self.reached.extend(other.reached);
     }
 
     fn accepted(&mut self, kind: Kind, areas: Vec<Vec<u32>>, numbers: Vec<u32>) {
@@ -156,7 +165,7 @@ impl Case {
 
     /// One list; number 2 for an area that is one entry short.
     fn list(&mut self, h: &Held, slot: u32, list: &[u16], more: usize) {
-        let free = |n: usize| vec![0xabcd; n];
+        let free = |n: usize| vec![FREE; n];
         let wide: Vec<u32> = list.iter().map(|i| *i as u32).collect();
         self.reached.extend(branches::list(&h.layout, slot, list));
         let mut areas = traced(&h.areas);
@@ -167,6 +176,34 @@ impl Case {
             areas.extend([free(n), free(n)]);
             self.push(Kind::OutputSources, Status { number: 2, place: 0 }, areas, vec![slot, 0]);
         }
+    }
+
+    /// The lists of all slots from one call, and number 2 for each area that is one place short.
+    pub fn all_lists(&mut self, h: &Held, more: usize) {
+        let lists = &h.rust.output_sources;
+        let (slots, places) = (lists.len(), PLACES * lists.len());
+        let (mut counts, mut inputs) = (vec![FREE; slots + more], vec![FREE; places + more]);
+        for (slot, list) in lists.iter().enumerate() {
+            counts[slot] = list.len() as u32;
+            list.iter().enumerate().for_each(|(i, input)| inputs[PLACES * slot + i] = *input as u32);
+        }
+        self.reached.extend(branches::lists(&h.layout, lists, more));
+        let mut areas = traced(&h.areas);
+        areas.extend([vec![FREE; counts.len()], vec![FREE; inputs.len()], counts, inputs]);
+        self.accepted(Kind::AllSources, areas, vec![slots as u32]);
+        if slots > 0 {
+            self.reached.extend(["all lists, the counts' area one place short", "all lists, the lists' area one place short"]);
+            self.all_refused(&h.areas, Status { number: 2, place: 0 }, slots - 1, places);
+            self.all_refused(&h.areas, Status { number: 2, place: 0 }, slots, places - 1);
+        }
+    }
+
+    /// `all_sources` refused, with so many places for counts and for inputs.
+    pub fn all_refused(&mut self, a: &Areas, status: Status, slots: usize, places: usize) {
+        let (counts, inputs) = (vec![FREE; slots], vec![FREE; places]);
+        let mut areas = traced(a);
+        areas.extend([counts.clone(), inputs.clone(), counts, inputs]);
+        self.push(Kind::AllSources, status, areas, vec![0]);
     }
 
     /// This plan takes over nodes of an old one.

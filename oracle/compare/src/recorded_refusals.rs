@@ -93,6 +93,9 @@ fn readers(c: &mut Case, g: &mut Gen, h: &Held) {
         areas.extend([vec![0xabcd; 3], vec![0xabcd; 3]]);
         c.push(Kind::OutputSources, status, areas, vec![slot, 0]);
     }
+    if let Err(status) = paper::check(&a, Lent::Trace) {
+        c.all_refused(&a, status, 2, 512);
+    }
     if let Err(status) = paper::clean(&a) {
         c.push(Kind::CleanAnswer, status, traced(&a), vec![0]);
     }

@@ -5,13 +5,13 @@ use std::collections::HashMap;
 /// The text at the front of the file has this many bytes.
 pub const TEXT: usize = 1024;
 const MAGIC: u32 = 0x5245_504c;
-const VERSION: u32 = 1;
+const VERSION: u32 = 2;
 /// Words before the areas: magic, version, words in all, records, and the word at which the records start.
 const HEADER: usize = 5;
 /// Words before the areas of a record: kind, length, the refusal, and how many areas.
 const FRONT: usize = 5;
 /// The longest area that `replay` lends.
-pub const LONGEST: usize = 4608;
+pub const LONGEST: usize = 8200;
 
 /// The kinds of records, by their numbers in the file, which start at 1.
 #[derive(Clone, Copy, Debug, PartialEq, Eq, PartialOrd, Ord)]
@@ -30,6 +30,7 @@ pub enum Kind {
     Lookup,
     DirectoryBad,
     OutputSources,
+    AllSources,
     CleanAnswer,
     Adopt,
     Labels,
@@ -72,9 +73,18 @@ pub fn plan(p: &Plan) -> Vec<u32> {
     [p.block, p.buffers, p.indices, p.coefficients, p.nodes, p.steps, p.words].into_iter().flat_map(size).collect()
 }
 
+/// Where an area lies in the pool; it is put behind the others where it lies nowhere.
+fn place(pool: &mut Vec<u32>, area: &[u32]) -> usize {
+    let found = (0..=pool.len().saturating_sub(area.len())).find(|at| pool[*at..].starts_with(area));
+    found.unwrap_or_else(|| {
+        pool.extend_from_slice(area);
+        pool.len() - area.len()
+    })
+}
+
 #[derive(Default)]
 pub struct Tape {
-    /// The areas, one after the other, none twice, and where each starts.
+    /// The areas, one after the other, none that lies in those before it, and where each starts.
     pool: Vec<u32>,
     starts: HashMap<Vec<u32>, u32>,
     words: Vec<u32>,
@@ -84,12 +94,9 @@ pub struct Tape {
 impl Tape {
     fn area(&mut self, area: &[u32]) -> [u32; 2] {
         assert!(area.len() <= LONGEST, "an area of {} words", area.len());
-        let next = (HEADER + self.pool.len()) as u32;
-        let start = *self.starts.entry(area.to_vec()).or_insert(next);
-        if start == next {
-            self.pool.extend_from_slice(area);
-        }
-        [start, area.len() as u32]
+        let pool = &mut self.pool;
+        let start = *self.starts.entry(area.to_vec()).or_insert_with(|| place(pool, area) as u32);
+        [HEADER as u32 + start, area.len() as u32]
     }
 
     pub fn push(&mut self, r: &Record) {

@@ -4,7 +4,7 @@ use Rattle.replay.proofs.areas.float_room.Statement.{statement}
 use Rattle.replay.proofs.areas.float_room.Tie as tie
 
 returns : tie.Need-returns
-returns c = silence 4608
+returns c = silence 8200
 
 pub float-room-spec : {M : Type 1} → statement M
 float-room-spec = tie.close (tie.spec returns)

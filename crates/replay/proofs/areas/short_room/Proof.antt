@@ -4,7 +4,7 @@ use Rattle.replay.proofs.areas.short_room.Statement.{statement}
 use Rattle.replay.proofs.areas.short_room.Tie as tie
 
 returns : tie.Need-returns
-returns c = zeros 4608
+returns c = zeros 8200
 
 pub short-room-spec : {M : Type 1} → statement M
 short-room-spec = tie.close (tie.spec returns)

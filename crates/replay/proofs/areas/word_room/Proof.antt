@@ -4,7 +4,7 @@ use Rattle.replay.proofs.areas.word_room.Statement.{statement}
 use Rattle.replay.proofs.areas.word_room.Tie as tie
 
 returns : tie.Need-returns
-returns c = zeros 4608
+returns c = zeros 8200
 
 pub word-room-spec : {M : Type 1} → statement M
 word-room-spec = tie.close (tie.spec returns)

@@ -5,10 +5,10 @@ use Rattle.replay.proofs.counts.by_kind.Statement.{statement}
 use Rattle.replay.proofs.counts.by_kind.Tie as tie
 
 abbrev Inv-loop : tie.InvT-loop
-Inv-loop tally kind₀ t3 t4 t5 kind = kind ≤ 23
+Inv-loop tally kind₀ t3 t4 t5 kind = kind ≤ 24
 
 abbrev μ-loop : tie.MeasureT-loop
-μ-loop tally kind₀ t3 t4 t5 kind = 23 - kind
+μ-loop tally kind₀ t3 t4 t5 kind = 24 - kind
 
 loop-holds : tie.Need-loop-holds Inv-loop μ-loop
 loop-holds c = search needs
