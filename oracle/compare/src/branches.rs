@@ -33,6 +33,16 @@ pub const REFUSALS: &[(Kind, &[u32])] = &[
 const LONG_BLOCK: &str = "a block of 1,024 samples";
 const LONG_DIRECTORY: &str = "a directory of 512 entries";
 
+/// What one plan reaches at once.
+pub const LIMITS: &[&str] = &[
+    "a plan of 256 buffers",
+    "a plan of 1,024 index entries",
+    "a plan of 1,024 coefficients",
+    "a plan of 64 nodes",
+    "a plan of 512 steps",
+    "all lists of 32 slots",
+];
+
 /// How often a branch is to be reached, where it may be reached often.
 pub fn often(name: &str, times: u32) -> u32 {
     if [LONG_BLOCK, LONG_DIRECTORY].contains(&name) {
@@ -278,6 +288,11 @@ pub fn run(l: &Layout, a: &Areas, input: &Input, output: &[f32], more: usize) ->
     n.when(l.block > 16, "a block of more than 16 samples");
     n.when(l.block == paper::MAX_BLOCK, LONG_BLOCK);
     n.when(input.directory.len() == 4 * paper::MAX_ENTRIES, LONG_DIRECTORY);
+    n.when(l.buffers == paper::MAX_BUFFERS, "a plan of 256 buffers");
+    n.when(l.index.len() == paper::MAX_INDICES, "a plan of 1,024 index entries");
+    n.when(l.coefficients.len() == paper::MAX_COEFFICIENTS, "a plan of 1,024 coefficients");
+    n.when(nodes == paper::MAX_NODES, "a plan of 64 nodes");
+    n.when(l.steps.len() == paper::MAX_STEPS, "a plan of 512 steps");
     n.seen
 }
 
@@ -313,6 +328,7 @@ pub fn lists(l: &Layout, lists: &[Vec<u16>], more: usize) -> Vec<&'static str> {
     let count = ["all lists of no slots", "all lists of one slot", "all lists of several slots"][lists.len().min(2)];
     let room = if more > 0 { "all lists, areas longer than needed" } else { "all lists, areas that just fit" };
     let mut seen = vec![count, room];
+    seen.extend((lists.len() == 32).then_some("all lists of 32 slots"));
     seen.extend((lists.iter().filter(|list| list.len() > 1).count() > 1).then_some("all lists, two of several inputs"));
     seen.extend((!(0..lists.len()).all(named)).then_some("all lists, a slot that no Output names"));
     seen

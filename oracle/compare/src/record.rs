@@ -1,6 +1,6 @@
 //! `oracle record FILE`: a sample of the reference's answers as a file, small enough to be kept with the port, whose program `replay` runs it.
 //! A case is taken where it reaches something that was not reached often enough yet, so that few cases reach everything on the lists of `branches.rs`.
-use crate::branches::{often, BRANCHES, REFUSALS};
+use crate::branches::{often, BRANCHES, LIMITS, REFUSALS};
 use crate::layouts::Gen;
 use crate::plan::Layout;
 use crate::recorded::{Case, Held};
@@ -14,7 +14,7 @@ const SEEDS: u64 = 20_000;
 const TIMES: u32 = 4;
 /// How many plans have their builder calls recorded.
 const BUILDS: u32 = 8;
-/// The lists of all slots are taken of a plan of at most this many slots.
+/// The lists of all slots are taken of a plan of at most this many slots, and of the plan at the limits.
 const SLOTS: usize = 4;
 
 const BLOCKS: [usize; 15] = [1, 1, 2, 3, 4, 5, 7, 8, 15, 16, 17, 24, 33, 40, 1024];
@@ -118,9 +118,30 @@ impl Recorder {
         Some((c, h))
     }
 
+    /// The first plan of a seed that is at every limit, with a block of one sample: traced, set once and run once. Its builder calls take too much room.
+    fn largest(&mut self) {
+        for seed in 1..=SEEDS {
+            let mut g = Gen::new(seed);
+            g.block = 1;
+            let layout = g.layout(None);
+            let mut c = Case::default();
+            let mut h = c.build(&mut g, layout);
+            c.records.retain(|r| r.kind == Kind::CheckPlan);
+            c.trace(&mut g, &h);
+            c.all_lists(&h, 2);
+            let (setting, input) = (g.setting(&h.layout), g.input_block(&h.layout));
+            c.set(&mut h, &setting);
+            c.run(&mut h, &input, 2);
+            if LIMITS.iter().all(|name| c.reached.contains(name)) {
+                self.plans += 1;
+                return self.take(&c);
+            }
+        }
+    }
+
     /// What was not reached.
     fn missing(&self) -> Vec<String> {
-        let branches = BRANCHES.iter().filter(|name| !self.reached.contains_key(*name)).map(|name| name.to_string());
+        let branches = BRANCHES.iter().chain(LIMITS).filter(|name| !self.reached.contains_key(*name)).map(|name| name.to_string());
         let all = REFUSALS.iter().flat_map(|(kind, numbers)| numbers.iter().map(move |n| (*kind, *n)));
         let refusals = all.filter(|r| !self.refused.contains_key(r)).map(|(kind, n)| format!("{kind:?} refused {n}"));
         branches.chain(refusals).collect()
@@ -149,7 +170,7 @@ fn text(r: &Recorder) -> String {
     format!(
         "Answers of the Rust mixer (commit f575066b19) to calls of the plan engine and the folds, for the program `replay`.
 Made by `oracle record FILE` (oracle/README.md): the same bytes each time.
-Plans are those of {} of the seeds 1 to {SEEDS}, taken where they reach a branch that fewer than {TIMES} cases had reached.
+Plans are those of {} of the seeds 1 to {SEEDS}: where a branch is reached that fewer than {TIMES} cases had reached, and the first at every limit.
 Samples, nodes, buffers, lists, balances, roundings and folds by its laws are the Rust's. What it lacks is the oracle's: lookups, refusals, the
 check and the clean answer by document 01, other folds by a table.
 
@@ -168,6 +189,7 @@ pub fn write(path: &str) -> Result<String, String> {
     for seed in 1..=SEEDS {
         r.plan(seed);
     }
+    r.largest();
     let mut c = Case::default();
     recorded_folds::all(&mut c, 1);
     r.take(&c);
