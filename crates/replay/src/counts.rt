@@ -5,7 +5,7 @@ use crate::data::word;
 use crate::kinds;
 use crate::text;
 
-const REFUSED: usize = 32;
+const REFUSED: u32 = 32;
 
 const SAMPLES: usize = 50;
 
@@ -21,7 +21,7 @@ fn add(tally: &mut [u64], i: usize, n: u64) {
 
 fn refused(number: u32, tally: &mut [u64]) {
     if number > 0 {
-        add(tally, REFUSED + number as usize, 1);
+        add(tally, REFUSED as usize + number as usize, 1);
     }
 }
 
@@ -48,35 +48,37 @@ fn at(tally: &[u64], i: usize) -> u64 {
     0
 }
 
-fn by_kind(tally: &[u64]) {
-    let mut kind: u32 = 1;
-    while kind <= kinds::TO_F32 {
-        text::put(b"  ");
-        kinds::name(kind);
-        text::put(b": ");
-        text::whole(at(tally, kind as usize));
-        text::put(b"\n");
-        kind += 1;
+// The name of a count: that of the call, or the number of the refusal.
+fn name(i: u32) {
+    if i <= REFUSED {
+        kinds::name(i);
+        return;
     }
+    text::small(i - REFUSED);
 }
 
-fn by_number(tally: &[u64]) {
-    let mut number: u32 = 1;
-    while number <= 17 {
-        text::put(b"  ");
-        text::small(number);
-        text::put(b": ");
-        text::whole(at(tally, REFUSED + number as usize));
-        text::put(b"\n");
-        number += 1;
+fn line(tally: &[u64], i: u32) {
+    text::put(b"  ");
+    name(i);
+    text::put(b": ");
+    text::whole(at(tally, i as usize));
+    text::put(b"\n");
+}
+
+// The counts behind one up to another, a line each.
+fn lines(tally: &[u64], from: u32, to: u32) {
+    let mut i = from;
+    while i < to {
+        i += 1;
+        line(tally, i);
     }
 }
 
 pub fn report(tally: &[u64]) {
     text::put(b"records compared, by call:\n");
-    by_kind(tally);
+    lines(tally, 0, kinds::TO_F32);
     text::put(b"refused calls, by number:\n");
-    by_number(tally);
+    lines(tally, REFUSED, REFUSED + 17);
     text::whole(at(tally, SAMPLES));
     text::put(b" output samples, ");
     text::whole(at(tally, INPUTS));

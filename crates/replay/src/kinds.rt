@@ -47,7 +47,8 @@ pub const WIDTH_MATRIX: u32 = 22;
 
 pub const TO_F32: u32 = 23;
 
-fn of_building(kind: u32) {
+// Writes the name of the call.
+pub fn name(kind: u32) {
     match kind {
         NEW => put(b"new"),
         BUFFERS => put(b"buffers"),
@@ -56,12 +57,7 @@ fn of_building(kind: u32) {
         COEFFICIENTS => put(b"coefficients"),
         NODE => put(b"node"),
         STEP => put(b"step"),
-        _ => put(b"finish"),
-    }
-}
-
-fn of_running(kind: u32) {
-    match kind {
+        FINISH => put(b"finish"),
         CHECK_PLAN => put(b"check_plan"),
         SET_PARAM => put(b"set_param"),
         PROCESS => put(b"process"),
@@ -70,12 +66,7 @@ fn of_running(kind: u32) {
         OUTPUT_SOURCES => put(b"output_sources"),
         ALL_SOURCES => put(b"all_sources"),
         CLEAN_ANSWER => put(b"clean_answer"),
-        _ => put(b"adopt"),
-    }
-}
-
-fn of_folding(kind: u32) {
-    match kind {
+        ADOPT => put(b"adopt"),
         LABELS => put(b"Format"),
         BALANCE_GAINS => put(b"balance_gains"),
         BALANCE_OF => put(b"balance_of"),
@@ -83,17 +74,4 @@ fn of_folding(kind: u32) {
         WIDTH_MATRIX => put(b"width_matrix"),
         _ => put(b"to_f32"),
     }
-}
-
-// Writes the name of the call.
-pub fn name(kind: u32) {
-    if kind <= FINISH {
-        of_building(kind);
-        return;
-    }
-    if kind <= ADOPT {
-        of_running(kind);
-        return;
-    }
-    of_folding(kind);
 }

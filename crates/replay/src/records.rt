@@ -120,9 +120,9 @@ fn built(words: &[u32], record: &[u32], kind: u32) -> bool {
 
 fn ran(words: &[u32], record: &[u32], kind: u32) -> bool {
     match kind {
-        kinds::CHECK_PLAN => runs::check_plan(words, record),
+        kinds::CHECK_PLAN => runs::on_plan(words, record),
         kinds::SET_PARAM => runs::set_param(words, record),
-        kinds::PROCESS => runs::process(words, record),
+        kinds::PROCESS => runs::on_plan(words, record),
         kinds::LOOKUP => runs::lookup(words, record),
         kinds::DIRECTORY_BAD => runs::directory_bad(words, record),
         kinds::OUTPUT_SOURCES => traces::output_sources(words, record),

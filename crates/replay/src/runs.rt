@@ -1,4 +1,4 @@
-// Records of `set_param`, `process`, `adopt` and the channel lookup.
+// Records of the check, `set_param`, `process`, `adopt` and the channel lookup.
 use crate::areas;
 use crate::builds::nodes_left;
 use crate::builds::plan_in;
@@ -8,6 +8,7 @@ use crate::data::area;
 use crate::data::floats_in;
 use crate::data::word;
 use crate::data::words_in;
+use crate::kinds;
 use run::Ran;
 
 fn set(
@@ -91,42 +92,6 @@ fn checked(
     compare::answer(record, answer)
 }
 
-fn check_in(
-    words: &[u32],
-    record: &[u32],
-    coefficients: &mut [f32],
-    floats: &mut [f32],
-    node_words: &mut [u32],
-    buffers: &mut [f32],
-) -> bool {
-    load_plan(words, record, coefficients, floats, node_words, buffers);
-    checked(words, record, coefficients, floats, node_words, buffers)
-}
-
-fn check_with(words: &[u32], record: &[u32], coefficients: &mut [f32], floats: &mut [f32]) -> bool {
-    let mut node_words = areas::word_room();
-    let mut buffers = areas::float_room();
-    let n = words_in(record, 4, &node_words);
-    let m = floats_in(record, 6, &buffers);
-    check_in(
-        words,
-        record,
-        coefficients,
-        floats,
-        &mut node_words[..n],
-        &mut buffers[..m],
-    )
-}
-
-// Areas: the record, the index list, the coefficients, the node floats and words, the step words, the buffers.
-pub fn check_plan(words: &[u32], record: &[u32]) -> bool {
-    let mut coefficients = areas::float_room();
-    let mut floats = areas::float_room();
-    let n = floats_in(record, 2, &coefficients);
-    let m = floats_in(record, 3, &floats);
-    check_with(words, record, &mut coefficients[..n], &mut floats[..m])
-}
-
 fn ran(record: &[u32], answer: Ran) -> bool {
     match answer {
         Ran::Wrote(n) => compare::accepted(record)
@@ -204,7 +169,7 @@ fn process_in(
 fn process_with(
     words: &[u32],
     record: &[u32],
-    coefficients: &mut [f32],
+    coefficients: &[f32],
     floats: &mut [f32],
     node_words: &mut [u32],
     buffers: &mut [f32],
@@ -213,7 +178,6 @@ fn process_with(
     let mut output = areas::float_room();
     let n = floats_in(record, 8, &samples);
     let m = floats_in(record, 9, &output);
-    load_plan(words, record, coefficients, floats, node_words, buffers);
     process_in(
         words,
         record,
@@ -226,17 +190,28 @@ fn process_with(
     )
 }
 
-fn process_nodes(
+// The call of a record on its plan, whose areas are still to be filled.
+fn planned(
     words: &[u32],
     record: &[u32],
     coefficients: &mut [f32],
     floats: &mut [f32],
+    node_words: &mut [u32],
+    buffers: &mut [f32],
 ) -> bool {
+    load_plan(words, record, coefficients, floats, node_words, buffers);
+    if word(record, 0) == kinds::CHECK_PLAN {
+        return checked(words, record, coefficients, floats, node_words, buffers);
+    }
+    process_with(words, record, coefficients, floats, node_words, buffers)
+}
+
+fn with_nodes(words: &[u32], record: &[u32], coefficients: &mut [f32], floats: &mut [f32]) -> bool {
     let mut node_words = areas::word_room();
     let mut buffers = areas::float_room();
     let n = words_in(record, 4, &node_words);
     let m = floats_in(record, 6, &buffers);
-    process_with(
+    planned(
         words,
         record,
         coefficients,
@@ -246,14 +221,15 @@ fn process_nodes(
     )
 }
 
-// Areas: as of the check, then the directory, the samples, the output area; the node floats and words, the buffers and the output area after.
-// Numbers: the samples written.
-pub fn process(words: &[u32], record: &[u32]) -> bool {
+// `check_plan` or `process`. Areas of the check: the record, the index list, the coefficients, the node floats and words, the step words, the
+// buffers; it has no numbers. Areas of a run: the same, then the directory, the samples, the output area; the node floats and words, the
+// buffers and the output area after. Numbers: the samples written.
+pub fn on_plan(words: &[u32], record: &[u32]) -> bool {
     let mut coefficients = areas::float_room();
     let mut floats = areas::float_room();
     let n = floats_in(record, 2, &coefficients);
     let m = floats_in(record, 3, &floats);
-    process_nodes(words, record, &mut coefficients[..n], &mut floats[..m])
+    with_nodes(words, record, &mut coefficients[..n], &mut floats[..m])
 }
 
 fn adopted(
