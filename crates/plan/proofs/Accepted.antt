@@ -10,7 +10,7 @@ use Rattle.refusal.specs.declared.Answer.the-variants.{Accepted}
 use Rattle.plan.specs.declared.Plan.{Plan}
 use Rattle.plan.specs.declared.Span.{Span}
 use Rattle.plan.specs.declared.Step.{Step}
-use Rattle.plan.specs.declared.Read.the-variants.{Found, Bad}
+use Rattle.plan.specs.declared.Read.the-variants.{Found}
 use Rattle.plan.specs.Limits.{unitLimits}
 use Rattle.plan.specs.Areas.{Areas, shortAreas, shortLists}
 use Rattle.plan.specs.Words.{readAt}
@@ -52,12 +52,6 @@ accepted-lists p indices words steps e =
 module _ (p : Plan) (indices w : List ℕ) (at : ℕ) {left more : ℕ} (e : left ≡ suc more) (f : Passes p indices w left at) where
   pass : Pass p indices w at (λ next. Passes p indices w more next)
   pass = subst (λ (k : ℕ). Passes p indices w k at) e f
-
-  pub pass-read : readAt w at ≡ Bad → ⊥
-  pass-read b =
-      let z : Bad ≡ Found (pass .step) (pass .next) = sym b ∙ pass .read in
-      let x : _≡_ {A = ℕ} 0 1 = cc in
-      omega arith
 
   module _ {s : Step} {next : ℕ} (r : readAt w at ≡ Found s next) where
     same : Found s next ≡ Found (pass .step) (pass .next)

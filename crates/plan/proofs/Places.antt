@@ -8,7 +8,7 @@ use native.Mathlib.Nat.{add-assoc, add-zero}
 use native.Mathlib.Decide.{ℕ-discrete}
 use native.Mathlib.Omega.{arith}
 use lib.ListN.{length, take, length-append, length-take}
-use lib.Seq.{getD-take, take-take, take-append-le, getD-append-add}
+use lib.Seq.{getD-take, take-append-le, getD-append-add}
 use lib.Count.{ones}
 use lib.Dec.{ltb, leb, eqb}
 use borrow.Author.Tests.{ltb-true, ltb-false, leb-true, leb-false, le-leb, lt-leb}
@@ -117,10 +117,7 @@ module _ (v w : List ℕ) (n : ℕ) (e : take n v ≡ take n w) (at : ℕ) {s : 
           (cc (same 1 (omega arith), same 2 (omega arith), same 3 (omega arith), same 4 (omega arith), same 5 (omega arith), same 6 (omega arith), same 7 (omega arith)))
       go (output i) = as-there i (read-output w at) (cc (same 1 (omega arith), same 2 (omega arith), same 3 (omega arith)))
 
--- a front of the words that holds the step, and more words after it
-pub read-front : (n : ℕ) (w : List ℕ) (at : ℕ) {s : Step} {next : ℕ} → readAt (take n w) at ≡ Found s next → next ≤ n → readAt w at ≡ Found s next
-read-front n w at r h = read-agree (take n w) w n (take-take n n w (omega arith)) at r h
-
+-- more words after those that hold the step
 pub read-append : (w more : List ℕ) (at : ℕ) {s : Step} {next : ℕ} → readAt w at ≡ Found s next → readAt (w ++ more) at ≡ Found s next
 read-append w more at r =
     read-agree w (w ++ more) (length w) (sym (take-append-le (length w) w more (omega arith))) at r (read-within w at r .1)
