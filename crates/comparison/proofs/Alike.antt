@@ -1,5 +1,5 @@
 -- Laws of lists beside the words that they should be, over the entry. Assumes nothing.
-use Prim.Native.Nat.{ℕ, zero, suc, _+_, _<_, _≤_}
+use Prim.Native.Nat.{ℕ, suc, _+_, _<_, _≤_}
 use mathlib.Core.Path.{_≡_, refl, sym, ap, ap₂, _∙_}
 use mathlib.Core.Bool.{Bool, true, false, cond, _&&_, true≢false}
 use mathlib.Core.List.{List, [], _∷_, map}
@@ -28,7 +28,7 @@ module _ {A : Type 0} (f : A → ℕ) (xs : List ℕ) (ys : List A) where
   alike-none = record { first = omega arith; second = omega arith; left = sym (zero-add (alike f xs ys)) }
 
   module _ (i : ℕ) (a : AlikeTo f xs ys i) where
-    -- the last place that is alike
+    -- where nothing that is left is alike
     at-end : alike f (drop i xs) (drop i ys) ≡ 0 → i ≡ alike f xs ys
     at-end h = sym (a .left ∙ ap (λ (n : ℕ). i + n) h ∙ add-zero i)
 
@@ -53,6 +53,11 @@ module _ {A : Type 0} (f : A → ℕ) (xs : List ℕ) (ys : List A) where
       }
 
 -- ---- what a comparison says
+
+both : (n a b : ℕ) (s t : Bool) → eqb n a ≡ s → eqb n b ≡ t → s && t ≡ true → (n ≡ a) × (n ≡ b)
+both n a b true true p q h = (eqb-true n a p, eqb-true n b q)
+both n a b true false p q h = absurd (true≢false (sym h))
+both n a b false t p q h = absurd (true≢false (sym h))
 
 module _ {A : Type 0} (f : A → ℕ) where
   all-alike : (xs : List ℕ) (ys : List A) → alike f xs ys ≡ length xs → alike f xs ys ≡ length ys → xs ≡ map f ys
@@ -82,11 +87,6 @@ module _ {A : Type 0} (f : A → ℕ) where
       go : (t : Bool) → eqb x (f y) ≡ t → take n xs ≡ map f (take n ys) → take (cond t (suc n) 0) (x ∷ xs) ≡ map f (take (cond t (suc n) 0) (y ∷ ys))
       go true e rest = ap₂ _∷_ (eqb-true x (f y) e) rest
       go false e rest = refl
-
-  both : (n a b : ℕ) (s t : Bool) → eqb n a ≡ s → eqb n b ≡ t → s && t ≡ true → (n ≡ a) × (n ≡ b)
-  both n a b true true p q h = (eqb-true n a p, eqb-true n b q)
-  both n a b true false p q h = absurd (true≢false (sym h))
-  both n a b false t p q h = absurd (true≢false (sym h))
 
   -- lists are said to be the same only where they are
   pub same-equal : (xs : List ℕ) (ys : List A) → compared f xs ys .same ≡ true → xs ≡ map f ys

@@ -1,6 +1,6 @@
 -- Laws of floats and their bits. Assumes nothing.
 use Prim.Native.Nat.{ℕ, _*_, _%_, _<_, _≤_}
-use mathlib.Core.Path.{_≡_, refl, sym, ap, _∙_, subst}
+use mathlib.Core.Path.{_≡_, refl, sym, _∙_, subst}
 use mathlib.Core.Bool.{Bool, true, false, not, true≢false}
 use lib.Dec.{T}
 use borrow.Author.Tests.{lt-ltb, le-ltb}

@@ -4,7 +4,6 @@ use lib.Ieee.{nan}
 use lib.ListN.{length}
 use Rattle.comparison.specs.Lists.{sample}
 use Rattle.comparison.proofs.Alike.{AlikeTo, alike-none, alike-more, unlike, first-ends, second-ends}
-use native.Mathlib.Omega.{arith}
 use borrow.Author.Needs.{needs}
 use borrow.Author.Tests.{ltb-true, ltb-false}
 use mathlib.Core.Path.{sym, _∙_}

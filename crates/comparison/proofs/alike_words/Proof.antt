@@ -3,7 +3,6 @@ use Prim.Native.Nat.{_-_}
 use lib.ListN.{length}
 use Rattle.comparison.specs.Lists.{word}
 use Rattle.comparison.proofs.Alike.{AlikeTo, alike-none, alike-more, unlike, first-ends, second-ends}
-use native.Mathlib.Omega.{arith}
 use borrow.Author.Needs.{needs}
 use borrow.Author.Tests.{ltb-true, ltb-false}
 use Rattle.comparison.proofs.alike_words.Statement.{statement}

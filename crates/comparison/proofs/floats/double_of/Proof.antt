@@ -1,5 +1,5 @@
 -- `comparison::floats::double_of` meets its contract. Assumes nothing.
-use mathlib.Core.Path.{_≡_, sym, _∙_}
+use mathlib.Core.Path.{sym}
 use lib.Ieee.{nan, binary64, div, ofBits}
 use Rattle.comparison.proofs.Bits.{nan-read, number-read}
 use borrow.Author.Needs.{needs}
