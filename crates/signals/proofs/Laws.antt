@@ -1,8 +1,9 @@
 -- What the loops of the digest and of the signals go by. Assumes nothing.
 use Prim.Native.Nat.{ℕ, zero, suc, _+_, _*_, _^_, _<_, _≤_}
-use mathlib.Core.Path.{_≡_, refl, _∙_, subst⁻¹}
+use mathlib.Core.Path.{_≡_, refl, sym, ap, _∙_, subst⁻¹}
 use mathlib.Core.List.{List, foldl}
 use native.Mathlib.Numerals.{add-one}
+use native.Mathlib.Omega.{arith}
 use native.Mathlib.Nat.{mul-le-mul-left, mul-lt-mul-of-pos-right, lt-of-le-of-lt, le-of-lt}
 use lib.ListN.{length, getD, drop, set, length-set, drop-of-length-le}
 use lib.Pow.{pow-pos, pow-add}
@@ -10,14 +11,17 @@ use lib.Seq.{drop-cons}
 use lib.Ieee.{Float}
 use Rattle.signals.specs.Signals.{pitches, filled, played}
 
--- ---- a list that is gone over from its front
+-- ---- a digest that goes over a list from its front: before entry i, what is left of the list leads to the digest of all of it
 
-module _ {A : Type 0} (more : ℕ → A → ℕ) (xs : List A) where
-  pub over-more : (digest i : ℕ) (d : A) → i < length xs → foldl more (more digest (getD xs i d)) (drop (i + 1) xs) ≡ foldl more digest (drop i xs)
-  over-more digest i d h = rw (add-one, drop-cons xs i d)
+module _ {A : Type 0} (more : ℕ → A → ℕ) (start : ℕ) (xs : List A) where
+  abbrev pub Over : ℕ → ℕ → Type 0
+  Over digest i = (i ≤ length xs) × (foldl more digest (drop i xs) ≡ foldl more start xs)
 
-  pub over-all : (digest i : ℕ) → length xs ≤ i → foldl more digest (drop i xs) ≡ digest
-  over-all digest i h = rw (drop-of-length-le xs h)
+  pub over-more : (digest i : ℕ) (d : A) {next : ℕ} → i < length xs → Over digest i → next ≡ more digest (getD xs i d) → Over next (i + 1)
+  over-more digest i d h o e = (omega arith, rw (e, add-one) (sym (ap (foldl more digest) (drop-cons xs i d h)) ∙ o .1))
+
+  pub over-all : (digest i : ℕ) → length xs ≤ i → Over digest i → digest ≡ foldl more start xs
+  over-all digest i h o = sym (ap (foldl more digest) (drop-of-length-le xs h)) ∙ o .1
 
 -- ---- the product of two numbers of k bits
 

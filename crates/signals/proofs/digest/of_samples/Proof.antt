@@ -1,24 +1,23 @@
 -- `signals::digest::of_samples` meets its contract. What is left of the list leads to its digest. Assumes nothing.
-use Prim.Native.Nat.{ℕ, _+_, _-_, _≤_}
-use mathlib.Core.Path.{_≡_, refl, sym, ap, _∙_}
+use Prim.Native.Nat.{_-_}
+use mathlib.Core.Path.{_≡_, refl}
 use native.Mathlib.Omega.{arith}
-use mathlib.Core.List.{foldl}
-use lib.ListN.{length, drop}
+use lib.ListN.{length}
 use lib.Ieee.{nan}
 use Rattle.signals.specs.Digest.{withSample}
-use Rattle.signals.proofs.Laws.{over-more, over-all}
+use Rattle.signals.proofs.Laws.{Over, over-more, over-all}
 use borrow.Author.Needs.{needs}
 use Rattle.signals.proofs.digest.of_samples.Statement.{statement}
 use Rattle.signals.proofs.digest.of_samples.Tie as tie
 
 abbrev Inv-loop : tie.InvT-loop
-Inv-loop digest list digest₀ i₀ i-end digest' i = (i ≤ length list) × (i-end ≡ length list) × (foldl withSample digest' (drop i list) ≡ foldl withSample digest list)
+Inv-loop digest list digest₀ i₀ i-end digest' i = (i-end ≡ length list) × Over withSample digest list digest' i
 
 abbrev μ-loop : tie.MeasureT-loop
 μ-loop digest list digest₀ i₀ i-end digest' i = length list - i
 
 loop-holds : tie.Need-loop-holds Inv-loop μ-loop
-loop-holds c = (search needs, search needs, refl)
+loop-holds c = (search needs, (search needs, refl))
 
 mul-with-sample : tie.Need-mul-with-sample Inv-loop μ-loop
 mul-with-sample c = search needs
@@ -38,13 +37,14 @@ loop-less c = search needs
 loop-again : tie.Need-loop-again Inv-loop μ-loop
 loop-again c =
     let h = c .before .before .before in
-    let l = h .before .before .args .list .now in
-    (omega arith, refl, ap (λ (d : ℕ). foldl withSample d (drop (h .loop .i + 1) l)) (c .with-sample .ensures) ∙ over-more withSample l (h .loop .digest) (h .loop .i) nan (omega arith) ∙ h .loop .inv .2)
+    let a = h .before .before .args in
+    (refl, over-more withSample (a .digest) (a .list .now) (h .loop .digest) (h .loop .i) nan (omega arith) (h .loop .inv .1) (c .with-sample .ensures))
 
 returns : tie.Need-returns Inv-loop μ-loop
 returns c =
-    let l = c .before .before .before .args .list .now in
-    sym (over-all withSample l (c .before .loop .digest) (c .before .loop .i) (omega arith)) ∙ c .before .loop .inv .2
+    let h = c .before in
+    let a = h .before .before .args in
+    over-all withSample (a .digest) (a .list .now) (h .loop .digest) (h .loop .i) (omega arith) (h .loop .inv .1)
 
 pub of-samples-spec : {M : Type 1} → statement M
 of-samples-spec =
