@@ -5,6 +5,7 @@ use mathlib.Core.List.{List, [], _∷_}
 use lib.Dec.{ltb}
 use lib.IntN.{pos}
 use lib.ListN.{getD, set}
+use lib.Seq.{sets}
 use lib.Ieee.{Float, binary32, sub, div, ofInt, ofBits}
 
 -- 0 up to 65,534 and back, over a period of 65,536
@@ -28,3 +29,21 @@ filled pitch from at (suc k) area = set (filled pitch from at k area) (at + k) (
 unfoldable pub played : (block from : ℕ) → ℕ → List Float → List Float
 played block from zero area = area
 played block from (suc c) area = filled (getD pitches c 0) from (c * block) block (played block from c area)
+
+-- ---- the directory of such a block
+
+-- the input of each channel, and the channel's number there
+abbrev pub inputs : List ℕ
+inputs = 3 ∷ 4 ∷ 10 ∷ 10 ∷ 20 ∷ 20 ∷ 20 ∷ 20 ∷ 20 ∷ 20 ∷ 31 ∷ 31 ∷ 60 ∷ []
+
+abbrev pub channels : List ℕ
+channels = 0 ∷ 0 ∷ 0 ∷ 1 ∷ 0 ∷ 1 ∷ 2 ∷ 3 ∷ 4 ∷ 5 ∷ 0 ∷ 1 ∷ 0 ∷ []
+
+-- input, channel, start and length
+abbrev pub entry : (block : ℕ) → ℕ → List ℕ
+entry block c = getD inputs c 0 ∷ getD channels c 0 ∷ c * block ∷ block ∷ []
+
+-- an area with the entries of the first n channels
+unfoldable pub entered : (block : ℕ) → ℕ → List ℕ → List ℕ
+entered block zero area = area
+entered block (suc c) area = sets (entered block c area) (c * 4) (entry block c)

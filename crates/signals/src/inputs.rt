@@ -3,7 +3,7 @@ use crate::BLOCK;
 ghost use mathlib.Core.Path.{_≡_};
 ghost use Prim.Native.Nat.{_+_, _≤_, _<_};
 ghost use lib.ListN.{length};
-ghost use Rattle.signals.specs.Signals.{triangle, signal, filled, played};
+ghost use Rattle.signals.specs.Signals.{triangle, signal, filled, played, entered};
 
 // Of all inputs.
 pub const CHANNELS: usize = 13;
@@ -76,6 +76,7 @@ pub fn play(from: u32, samples: &mut [f32])
 // The directory of such a block. Requires room for it.
 pub fn directory(entries: &mut [u32])
     requires { ⌜ length (now entries) ≡ 52 ⌝ }
+    ensures { λ _. ⌜ now (entries .exit) ≡ entered 256 13 (now (entries .entry)) ⌝ }
 {
     for c in 0..CHANNELS {
         let at = c * 4;

@@ -1,20 +1,29 @@
--- `signals::inputs::directory` meets its contract. What is left of the channels falls with each turn. Assumes nothing.
-use Prim.Native.Nat.{_-_, _≤_}
-use mathlib.Core.Path.{_≡_}
-use lib.ListN.{length, length-set}
+-- `signals::inputs::directory` meets its contract. The loop's invariant: the entries of the first c channels are stored. Assumes nothing.
+use Prim.Native.Nat.{ℕ, _+_, _-_, _*_, _≤_}
+use mathlib.Core.Path.{_≡_, refl, ap, _∙_}
+use mathlib.Core.List.{List, [], _∷_}
+use native.Mathlib.Numerals.{add-one, unary-clauses}
 use native.Mathlib.Omega.{arith}
+use lib.ListN.{length, getD, set, length-set}
+use lib.Seq.{sets}
+use Rattle.signals.specs.Signals.{inputs, channels, entry, entered}
 use borrow.Author.Needs.{needs}
 use Rattle.signals.proofs.inputs.directory.Statement.{statement}
 use Rattle.signals.proofs.inputs.directory.Tie as tie
 
 abbrev Inv-loop : tie.InvT-loop
-Inv-loop entries₀ c₀ entries c = (c ≤ 13) × (length entries ≡ length entries₀)
+Inv-loop entries₀ c₀ entries c = (c ≤ 13) × (length entries ≡ length entries₀) × (entries ≡ entered 256 c entries₀)
 
 abbrev μ-loop : tie.MeasureT-loop
 μ-loop entries₀ c₀ entries c = 13 - c
 
+-- four stores, one after the other
+stored : (l : List ℕ) (at : ℕ) (a b c d : ℕ) → set (set (set (set l at a) (at + 1) b) (at + 2) c) (at + 3) d ≡ sets l at (a ∷ b ∷ c ∷ d ∷ [])
+stored l at a b c d = simp unary-clauses refl
+
 loop-holds : tie.Need-loop-holds Inv-loop μ-loop
-loop-holds c = search needs
+unfolding entered
+loop-holds c = (search needs, refl, refl)
 
 mul-at : tie.Need-mul-at Inv-loop μ-loop
 mul-at c = search needs
@@ -80,13 +89,19 @@ loop-less : tie.Need-loop-less Inv-loop μ-loop
 loop-less c = search needs
 
 loop-again : tie.Need-loop-again Inv-loop μ-loop
-loop-again c = search needs
+unfolding entered
+loop-again c =
+    let h = c .before in
+    (omega arith, search needs, rw (add-one (h .loop .c)) (stored (h .loop .entries) (h .loop .c * 4) (getD inputs (h .loop .c) 0) (getD channels (h .loop .c) 0) (h .loop .c * 256) 256 ∙ ap (λ (l : List ℕ). sets l (h .loop .c * 4) (entry 256 (h .loop .c))) (h .loop .inv .2)))
 
 same-length : tie.Need-same-length Inv-loop μ-loop
 same-length c = search needs
 
 returns : tie.Need-returns Inv-loop μ-loop
-returns c = search needs
+returns c =
+    let a = c .before .before .args in
+    let e : c .before .loop .c ≡ 13 = omega arith in
+    c .before .loop .inv .2 ∙ ap (λ (n : ℕ). entered 256 n (a .entries .now)) e
 
 pub directory-spec : {M : Type 1} → statement M
 directory-spec =
