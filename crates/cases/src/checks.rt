@@ -1,6 +1,6 @@
 // Cases 8 and 11: the lists behind the slots of a plan, and what the plan check takes.
+use crate::answers;
 use crate::plans;
-use crate::text;
 use builder::PlanBuilder;
 use plan::Plan;
 use trace::Sources;
@@ -8,8 +8,8 @@ use trace::Sources;
 fn list(plan: Plan, slot: u32, indices: &[u32], node_words: &[u32], steps: &[u32]) {
     let mut inputs = [0u16; 4];
     match trace::output_sources(plan, slot, indices, node_words, steps, &mut inputs) {
-        Sources::Listed(n) => text::inputs(&inputs, n),
-        Sources::Refused(r) => text::refusal(r),
+        Sources::Listed(n) => answers::inputs(&inputs, n),
+        Sources::Refused(r) => text::refused(r),
     }
 }
 
@@ -42,7 +42,7 @@ pub fn traced() {
 pub fn block(n: usize) {
     let grown = PlanBuilder::new(n);
     let answer = grown.answer;
-    text::answer(answer);
+    answers::answer(answer);
 }
 
 // Case 11: the plan check of one step, with 14 buffers and a node of 24 values, in areas that no builder laid out.
@@ -65,5 +65,5 @@ pub fn step(words: &[u32]) {
         words,
         &[0.0; 14],
     );
-    text::answer(answer);
+    answers::answer(answer);
 }

@@ -1,19 +1,20 @@
 // Cases 7, 9 and 10: the rounding, a fold and a balance.
-use crate::text;
+use crate::answers;
+use crate::floats;
 use fold::FoldGains;
 use refusal::Answer;
 
 // Case 7.
 pub fn rounded(x: f64) {
-    text::number(x);
+    floats::number(x);
     text::put(b" to ");
-    text::sample(rounding::to_f32(x));
+    floats::sample(rounding::to_f32(x));
 }
 
 fn entries(answer: Answer, list: &[f32]) {
     match answer {
-        Answer::Accepted => text::samples(list, list.len(), b" "),
-        Answer::Refused(r) => text::refusal(r),
+        Answer::Accepted => answers::samples(list, list.len(), b" "),
+        Answer::Refused(r) => text::refused(r),
     }
 }
 

@@ -1,9 +1,10 @@
 // Document 01's table of cases, run through the public calls: a line for each, with what came out.
+mod answers;
 mod checks;
+mod floats;
 mod gains;
 mod plans;
 mod runs;
-mod text;
 
 fn case_1_to_3() {
     text::put(b"1. New [1], ramp 4, block 2: gains ");

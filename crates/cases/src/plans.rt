@@ -1,5 +1,5 @@
 // A plan laid out call by call, each of which hands on the plan. A call that is refused says so on the standard output.
-use crate::text;
+use crate::answers;
 use builder::NumberAnswer;
 use builder::PlanBuilder;
 use builder::SpanAnswer;
@@ -34,13 +34,13 @@ pub const SEND: [u32; 19] = [
 
 fn span_refused(answer: SpanAnswer) {
     if let SpanAnswer::Refused(r) = answer {
-        text::refused(Answer::Refused(r));
+        answers::refused(Answer::Refused(r));
     }
 }
 
 fn number_refused(answer: NumberAnswer) {
     if let NumberAnswer::Refused(r) = answer {
-        text::refused(Answer::Refused(r));
+        answers::refused(Answer::Refused(r));
     }
 }
 
@@ -54,7 +54,7 @@ pub fn begun(
 ) -> Plan {
     let empty = PlanBuilder::new(block);
     let answer = empty.answer;
-    text::refused(answer);
+    answers::refused(answer);
     let spanned = PlanBuilder::buffers(empty.plan, n, indices);
     let answer = spanned.answer;
     span_refused(answer);
@@ -85,7 +85,7 @@ fn stepped(plan: Plan, records: &[u32], steps: &mut [u32]) -> Plan {
     while at < records.len() {
         let grown = PlanBuilder::step(plan, &records[at..], steps);
         let answer = grown.answer;
-        text::refused(answer);
+        answers::refused(answer);
         plan = grown.plan;
         let n = 1 + plan::field_count(records[at]);
         if records.len() - at < n {
@@ -100,6 +100,6 @@ fn stepped(plan: Plan, records: &[u32], steps: &mut [u32]) -> Plan {
 pub fn finished(plan: Plan, records: &[u32], steps: &mut [u32], buffers: &mut [f32]) -> Plan {
     let grown = PlanBuilder::finish(stepped(plan, records, steps), buffers);
     let answer = grown.answer;
-    text::refused(answer);
+    answers::refused(answer);
     grown.plan
 }

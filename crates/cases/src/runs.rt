@@ -1,6 +1,7 @@
 // Cases 1 to 6: runs of small plans, whose steps are given as words: 7 Patch, 248 Gain, 2296 Matrix, 192 Clear, 1016 Send, 1072 Output.
+use crate::answers;
+use crate::floats;
 use crate::plans;
-use crate::text;
 use plan::Plan;
 use run::Ran;
 
@@ -34,7 +35,7 @@ fn ran(
     ) {
         Ran::Wrote(n) => n,
         Ran::Refused(r) => {
-            text::refusal(r);
+            text::refused(r);
             0
         }
     }
@@ -76,7 +77,7 @@ fn over_ones(
         &[1.0, 1.0, 1.0],
         &mut output,
     );
-    text::samples(&output, n, b", ");
+    answers::samples(&output, n, b", ");
 }
 
 // What two runs over ones wrote, and whether the node is at rest then.
@@ -140,7 +141,7 @@ pub fn ramped(block: usize, directory: &[u32]) {
 fn set(plan: Plan, values: &[f32], node_floats: &mut [f32], node_words: &mut [u32]) {
     if values.len() > 0 {
         let answer = setting::set_param(plan.nodes, plans::ID, values, 0, node_floats, node_words);
-        text::refused(answer);
+        answers::refused(answer);
     }
 }
 
@@ -194,7 +195,7 @@ pub fn set_one_of_two() {
         &[1.0, 1.0],
         &mut output,
     );
-    text::samples(&output, n, b", ");
+    answers::samples(&output, n, b", ");
 }
 
 // Case 4: a Matrix over 3 and infinity.
@@ -211,7 +212,7 @@ pub fn matrix_of_two() {
         &[3.0, 1.0 / 0.0],
         &mut output,
     );
-    text::samples(&output, n, b", ");
+    answers::samples(&output, n, b", ");
 }
 
 // Case 4: a Gain of 0 over infinity.
@@ -228,7 +229,7 @@ pub fn gain_of_zero() {
         &[1.0 / 0.0],
         &mut output,
     );
-    text::samples(&output, n, b", ");
+    answers::samples(&output, n, b", ");
 }
 
 // Case 5: a Matrix of 1 over -0.
@@ -245,7 +246,7 @@ pub fn matrix_of_one() {
         &[-0.0],
         &mut output,
     );
-    text::signed(output[0]);
+    floats::signed(output[0]);
 }
 
 // Case 6: a Send of 2^-140 with the weight 2^-10 and the target 2^20, into a buffer of silence.
@@ -262,5 +263,5 @@ pub fn send(ramp: u32) {
         &[7.1746481373430634e-43],
         &mut output,
     );
-    text::samples(&output, n, b", ");
+    answers::samples(&output, n, b", ");
 }

@@ -10,7 +10,6 @@ mod refused;
 mod runs;
 mod settings;
 mod sheet;
-mod text;
 
 use plan::Plan;
 use refusal::Answer;
@@ -110,7 +109,7 @@ fn show(
 fn stopped(answer: Answer) {
     if let Answer::Refused(r) = answer {
         text::put(b"\nThe show has stopped: ");
-        text::refusal(r);
+        refused::why(r);
         text::put(b"\n");
     }
 }

@@ -1,6 +1,5 @@
 // Names in columns.
 use crate::layout;
-use crate::text;
 use format::Format;
 
 pub fn format(number: u32, width: usize) {

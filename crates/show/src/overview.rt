@@ -1,7 +1,6 @@
 // The layout in words, from its tables.
 use crate::layout;
 use crate::names;
-use crate::text;
 use plan::Plan;
 
 fn input(line: usize) {
@@ -70,15 +69,15 @@ pub fn tables() {
 
 pub fn counts(plan: Plan) {
     text::put(b"\nPlan: ");
-    text::whole(plan.buffers);
+    text::whole(plan.buffers as u64);
     text::put(b" buffers, ");
-    text::whole(plan.coefficients);
+    text::whole(plan.coefficients as u64);
     text::put(b" coefficients, ");
-    text::whole(plan.nodes);
+    text::whole(plan.nodes as u64);
     text::put(b" nodes, ");
-    text::whole(plan.steps);
+    text::whole(plan.steps as u64);
     text::put(b" steps of ");
-    text::whole(plan.words);
+    text::whole(plan.words as u64);
     text::put(b" words");
 }
 

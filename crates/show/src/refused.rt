@@ -1,7 +1,6 @@
 // Calls that are refused, and what they leave.
 use crate::runs;
 use crate::settings;
-use crate::text;
 use plan::Plan;
 use refusal::Answer;
 use refusal::Refusal;
@@ -24,12 +23,29 @@ fn of_areas(floats: &[f32], words: &[u32], buffers: &[f32], output: &[f32]) -> u
     digest::of_samples(digest::of_samples(of_nodes(floats, words), buffers), output)
 }
 
+// The reason of the numbers that the show is refused with; document 01 has the others.
+fn reason(number: u32) {
+    match number {
+        Refusal::UNKNOWN_ID => text::put(b", id unknown"),
+        Refusal::LONG_RAMP => text::put(b", ramp too long"),
+        Refusal::SHORT_OUTPUT => text::put(b", output area short"),
+        _ => {}
+    }
+}
+
+// The number of a refusal and its reason, and the step where it is at one.
+pub fn why(r: Refusal) {
+    text::refused(r);
+    reason(r.number);
+    text::place(r);
+}
+
 // The line of a refused call; its areas had the digest `before`, and have the digest `after`.
 fn line(from: usize, what: &[u8], r: Refusal, before: u32, after: u32) {
     settings::at(from);
     text::put(what);
     text::put(b": ");
-    text::refusal(r);
+    why(r);
     if before == after {
         text::put(b"; its areas are as they were: yes\n");
         return;

@@ -1,7 +1,6 @@
 // The settings of the show, each made before a block.
 use crate::desk;
 use crate::gains;
-use crate::text;
 use refusal::Answer;
 
 // The line of what happens before the block from a sample on begins with that sample.

@@ -1,7 +1,6 @@
 // The cue sheet: for each slot the inputs behind it, as the trace lists them, and the digest of what was written to it.
 use crate::layout;
 use crate::names;
-use crate::text;
 use plan::Plan;
 use refusal::Answer;
 use trace::CleanAnswer;
@@ -21,7 +20,7 @@ fn inputs(list: &[u16], n: u32) {
 
 fn input(n: u16) {
     text::put(b" ");
-    text::whole(n as usize);
+    text::whole(n as u64);
 }
 
 fn row(
@@ -39,7 +38,7 @@ fn row(
             text::right(slot as u64, 6);
             text::put(b"  ");
             names::slot(slot as usize, 14);
-            text::hex(digest);
+            text::hex(digest as u64, 8);
             text::right(n as u64, 7);
             text::put(b" ");
             inputs(&list, n);

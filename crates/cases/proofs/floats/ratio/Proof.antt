@@ -1,7 +1,7 @@
--- `cases::text::ratio` meets its contract: f falls with each turn. Assumes nothing.
+-- `cases::floats::ratio` meets its contract: f falls with each turn. Assumes nothing.
 use borrow.Author.Needs.{needs}
-use Rattle.cases.proofs.text.ratio.Statement.{statement}
-use Rattle.cases.proofs.text.ratio.Tie as tie
+use Rattle.cases.proofs.floats.ratio.Statement.{statement}
+use Rattle.cases.proofs.floats.ratio.Tie as tie
 
 abbrev Inv-loop : tie.InvT-loop
 Inv-loop m f m₀ f₀ m' f' = Unit {0}

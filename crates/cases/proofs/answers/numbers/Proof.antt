@@ -1,8 +1,8 @@
--- `cases::text::numbers` meets its contract: what is left of the n falls with each turn. Assumes nothing.
+-- `cases::answers::numbers` meets its contract: what is left of the n falls with each turn. Assumes nothing.
 use Prim.Native.Nat.{_-_}
 use borrow.Author.Needs.{needs}
-use Rattle.cases.proofs.text.numbers.Statement.{statement}
-use Rattle.cases.proofs.text.numbers.Tie as tie
+use Rattle.cases.proofs.answers.numbers.Statement.{statement}
+use Rattle.cases.proofs.answers.numbers.Tie as tie
 
 abbrev Inv-loop : tie.InvT-loop
 Inv-loop list n n' i₀ t5 i = Unit {0}
@@ -19,14 +19,14 @@ slice-aggregate-separated c = search needs
 separated-requires : tie.Need-separated-requires Inv-loop μ-loop
 separated-requires c κs = search needs
 
-mul-whole-16 : tie.Need-mul-whole-16 Inv-loop μ-loop
-mul-whole-16 c = search needs
+mul-input : tie.Need-mul-input Inv-loop μ-loop
+mul-input c = search needs
 
-shared-slice-read-whole-16 : tie.Need-shared-slice-read-whole-16 Inv-loop μ-loop
-shared-slice-read-whole-16 c = search needs
+shared-slice-read-input : tie.Need-shared-slice-read-input Inv-loop μ-loop
+shared-slice-read-input c = search needs
 
-whole-16-requires : tie.Need-whole-16-requires Inv-loop μ-loop
-whole-16-requires c κs = search needs
+input-requires : tie.Need-input-requires Inv-loop μ-loop
+input-requires c κs = search needs
 
 add-i : tie.Need-add-i Inv-loop μ-loop
 add-i c = search needs
@@ -52,9 +52,9 @@ numbers-spec =
     loop-holds
     slice-aggregate-separated
     separated-requires
-    mul-whole-16
-    shared-slice-read-whole-16
-    whole-16-requires
+    mul-input
+    shared-slice-read-input
+    input-requires
     add-i
     loop-less
     loop-again

@@ -1,12 +1,12 @@
--- `cases::text::pattern` meets its contract: a float that equals itself is no NaN. Assumes nothing.
+-- `cases::floats::pattern` meets its contract: a float that equals itself is no NaN. Assumes nothing.
 use mathlib.Core.Path.{_≡_, sym, _∙_}
 use mathlib.Core.Bool.{false, not, true≢false}
 use lib.Dec.{T}
 use lib.Ieee.{Float, nan, inf, fin, ne, isNan}
 use lib.Ieee.Compare.{nan-differs}
 use borrow.Author.Needs.{needs}
-use Rattle.cases.proofs.text.pattern.Statement.{statement}
-use Rattle.cases.proofs.text.pattern.Tie as tie
+use Rattle.cases.proofs.floats.pattern.Statement.{statement}
+use Rattle.cases.proofs.floats.pattern.Tie as tie
 
 no-nan : (x : Float) → ne x x ≡ false → T (not (isNan x))
 unfolding isNan

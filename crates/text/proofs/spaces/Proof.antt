@@ -1,8 +1,8 @@
--- `show::text::spaces` meets its contract. What is left of the n falls with each turn. Assumes nothing.
+-- `text::spaces` meets its contract. What is left of the n falls with each turn. Assumes nothing.
 use Prim.Native.Nat.{_-_, _≤_}
 use borrow.Author.Needs.{needs}
-use Rattle.show.proofs.text.spaces.Statement.{statement}
-use Rattle.show.proofs.text.spaces.Tie as tie
+use Rattle.text.proofs.spaces.Statement.{statement}
+use Rattle.text.proofs.spaces.Tie as tie
 
 abbrev Inv-loop : tie.InvT-loop
 Inv-loop n i₀ t3 i = i ≤ n

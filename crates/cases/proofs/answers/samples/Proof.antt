@@ -1,8 +1,8 @@
--- `cases::text::samples` meets its contract: what is left of the n falls with each turn. Assumes nothing.
+-- `cases::answers::samples` meets its contract: what is left of the n falls with each turn. Assumes nothing.
 use Prim.Native.Nat.{_-_}
 use borrow.Author.Needs.{needs}
-use Rattle.cases.proofs.text.samples.Statement.{statement}
-use Rattle.cases.proofs.text.samples.Tie as tie
+use Rattle.cases.proofs.answers.samples.Statement.{statement}
+use Rattle.cases.proofs.answers.samples.Tie as tie
 
 abbrev Inv-loop : tie.InvT-loop
 Inv-loop list n between i₀ i = Unit {0}
