@@ -7,8 +7,6 @@ pub const STRIPS: usize = 6;
 
 pub const SLOTS: usize = 9;
 
-pub const LINES: usize = STRIPS + SLOTS;
-
 pub const SENDS: usize = 23;
 
 // The lines of the strips.
@@ -46,6 +44,20 @@ pub const LOUNGE: usize = 8;
 // Where a bus is made of sends, and is no fold of another slot's bus.
 pub const OF_SENDS: usize = SLOTS;
 
+// The ids of the nodes that settings change: three levels, the singer's panner, the band's width.
+pub const NARRATOR_LEVEL: u32 = 100;
+
+pub const FILM_IN_HALL: u32 = 203;
+
+pub const TALKBACK_IN_HALL: u32 = 205;
+
+pub const PAN: u32 = 111;
+
+pub const WIDTH: u32 = 112;
+
+// As many gains as the widest strip has channels.
+pub const STRIP_GAINS: usize = 6;
+
 // The id of its level, the input, the input's format, the format of the line, the level.
 pub struct Strip(pub u32, pub u32, pub u32, pub u32, pub f32);
 
@@ -56,7 +68,7 @@ pub struct Slot(pub u32, pub usize, pub u32);
 pub struct Send(pub u32, pub usize, pub usize, pub f32);
 
 const STRIP_TABLE: [Strip; STRIPS] = [
-    Strip(100, 3, Format::MONO, Format::MONO, 1.0),
+    Strip(NARRATOR_LEVEL, 3, Format::MONO, Format::MONO, 1.0),
     Strip(101, 4, Format::MONO, Format::STEREO, 0.75),
     Strip(102, 10, Format::STEREO, Format::STEREO, 0.5),
     Strip(103, 20, Format::SURROUND_51, Format::SURROUND_51, 0.75),
@@ -81,9 +93,9 @@ const SEND_TABLE: [Send; SENDS] = [
     Send(200, NARRATOR, HALL, 1.0),
     Send(201, SINGER, HALL, 0.75),
     Send(202, BAND, HALL, 0.5),
-    Send(203, FILM, HALL, 1.0),
+    Send(FILM_IN_HALL, FILM, HALL, 1.0),
     Send(204, EFFECTS, HALL, 0.5),
-    Send(205, TALKBACK, HALL, 0.0),
+    Send(TALKBACK_IN_HALL, TALKBACK, HALL, 0.0),
     Send(231, SINGER, STAGE, 1.0),
     Send(232, BAND, STAGE, 0.5),
     Send(240, NARRATOR, PIT, 0.5),

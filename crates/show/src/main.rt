@@ -1,8 +1,7 @@
 // The default show of a theatre unit: a layout of nine outputs, four seconds of it, and its cue sheet. A call that is refused, and is not shown
 // as such, ends the program with a line that says so.
-mod desk;
-mod draft;
-mod gains;
+mod build;
+mod buses;
 mod layout;
 mod names;
 mod overview;
@@ -10,69 +9,12 @@ mod refused;
 mod runs;
 mod settings;
 mod sheet;
+mod steps;
+mod strips;
 
+use desk::draft;
 use plan::Plan;
 use refusal::Answer;
-ghost use mathlib.Core.Path.{_≡_};
-ghost use lib.ListN.{length};
-
-// Four seconds at 48,000 samples a second.
-const BLOCKS: usize = 750;
-
-// Calls that are refused are made before this block. They change nothing, so the digests are those of a run without them.
-const REFUSED: usize = 375;
-
-// The run, in two parts. Requires a digest for each slot.
-fn run_all(
-    plan: Plan,
-    indices: &[u32],
-    coefficients: &[f32],
-    floats: &mut [f32],
-    words: &mut [u32],
-    steps: &[u32],
-    buffers: &mut [f32],
-    digests: &mut [u32],
-) -> Answer
-    requires { ⌜ length (now digests) ≡ 9 ⌝ }
-{
-    let answer = runs::blocks(
-        0,
-        REFUSED,
-        plan,
-        indices,
-        coefficients,
-        floats,
-        words,
-        steps,
-        buffers,
-        digests,
-    );
-    if let Answer::Refused(r) = answer {
-        return Answer::Refused(r);
-    }
-    refused::calls(
-        REFUSED * signals::BLOCK,
-        plan,
-        indices,
-        coefficients,
-        floats,
-        words,
-        steps,
-        buffers,
-    );
-    runs::blocks(
-        REFUSED,
-        BLOCKS,
-        plan,
-        indices,
-        coefficients,
-        floats,
-        words,
-        steps,
-        buffers,
-        digests,
-    )
-}
 
 // What a plan that is laid out does: whether it is clean, its run, its cue sheet.
 fn show(
@@ -90,7 +32,7 @@ fn show(
     }
     overview::run();
     let mut digests = [signals::digest::START; layout::SLOTS];
-    let answer = run_all(
+    let answer = runs::blocks(
         plan,
         indices,
         coefficients,
@@ -106,6 +48,7 @@ fn show(
     sheet::rows(&digests, plan, indices, &words[..], steps)
 }
 
+// Nothing for a show that went to its end.
 fn stopped(answer: Answer) {
     if let Answer::Refused(r) = answer {
         text::put(b"\nThe show has stopped: ");
@@ -123,7 +66,7 @@ fn main() {
     let mut buffers = [0.0f32; 16_384];
     text::put(b"Sezhqolma: the default show of a theatre unit\n");
     overview::tables();
-    let draft = desk::laid_out(
+    let draft = build::laid_out(
         &mut indices,
         &mut coefficients,
         &mut floats,

@@ -1,14 +1,17 @@
 // The layout in words, from its tables.
 use crate::layout;
+use crate::layout::Send;
+use crate::layout::Slot;
+use crate::layout::Strip;
 use crate::names;
 use plan::Plan;
 
 fn input(line: usize) {
-    let row = layout::strip_at(line);
-    text::right(row.1 as u64, 6);
+    let Strip(_, input, format, _, _) = layout::strip_at(line);
+    text::right(input as u64, 6);
     text::put(b"  ");
     names::strip(line, 14);
-    names::format(row.2, 0);
+    names::format(format, 0);
     match line {
         layout::SINGER => text::put(b", with a panner"),
         layout::BAND => text::put(b", with a width"),
@@ -26,10 +29,10 @@ fn inputs() {
 
 // Send i, where it is one to the slot.
 fn sent(slot: usize, i: usize) {
-    let row = layout::send_at(i);
-    if row.2 == slot {
+    let Send(_, line, to, _) = layout::send_at(i);
+    if to == slot {
         text::put(b" ");
-        names::strip(row.1, 0);
+        names::strip(line, 0);
     }
 }
 
@@ -41,16 +44,16 @@ fn sends(slot: usize) {
 }
 
 fn output(slot: usize) {
-    let row = layout::slot_at(slot);
+    let Slot(format, from, _) = layout::slot_at(slot);
     text::right(slot as u64, 6);
     text::put(b"  ");
     names::slot(slot, 14);
-    names::format(row.0, 8);
-    if row.1 == layout::OF_SENDS {
+    names::format(format, 8);
+    if from == layout::OF_SENDS {
         sends(slot);
     } else {
         text::put(b"fold of ");
-        names::slot(row.1, 0);
+        names::slot(from, 0);
     }
     text::put(b"\n");
 }

@@ -1,4 +1,5 @@
-// Calls that are refused, and what they leave.
+// Calls that are refused, and what they leave. They are made before one block, and change nothing: the digests are those of a run without them.
+use crate::layout;
 use crate::runs;
 use crate::settings;
 use plan::Plan;
@@ -8,6 +9,9 @@ use run::Ran;
 use signals::digest;
 ghost use mathlib.Core.Path.{_≡_};
 ghost use Rattle.signals.specs.Digest.{start, ofWords, ofSamples};
+
+// The sample that the block starts at.
+const AT: usize = 96_000;
 
 // A digest of all nodes.
 fn of_nodes(floats: &[f32], words: &[u32]) -> u32
@@ -42,8 +46,7 @@ pub fn why(r: Refusal) {
 
 // The line of a refused call; its areas had the digest `before`, and have the digest `after`.
 fn line(from: usize, what: &[u8], r: Refusal, before: u32, after: u32) {
-    settings::at(from);
-    text::put(what);
+    settings::line(from, what);
     text::put(b": ");
     why(r);
     if before == after {
@@ -106,8 +109,21 @@ fn short_run(
     }
 }
 
-// An id that no node has, a ramp that is a sample too long, and the run.
-pub fn calls(
+// An id that no node has, and a ramp that is a sample too long.
+fn bad_settings(from: usize, nodes: usize, floats: &mut [f32], words: &mut [u32]) {
+    setting(from, b"a setting of node 999", 999, 0, nodes, floats, words);
+    setting(
+        from,
+        b"a ramp of 16,777,217 samples",
+        layout::NARRATOR_LEVEL,
+        16_777_217,
+        nodes,
+        floats,
+        words,
+    );
+}
+
+pub fn before(
     from: usize,
     plan: Plan,
     indices: &[u32],
@@ -117,24 +133,10 @@ pub fn calls(
     steps: &[u32],
     buffers: &mut [f32],
 ) {
-    setting(
-        from,
-        b"a setting of node 999",
-        999,
-        0,
-        plan.nodes,
-        floats,
-        words,
-    );
-    setting(
-        from,
-        b"a ramp of 16,777,217 samples",
-        100,
-        16_777_217,
-        plan.nodes,
-        floats,
-        words,
-    );
+    if from != AT {
+        return;
+    }
+    bad_settings(from, plan.nodes, floats, words);
     short_run(
         from,
         plan,

@@ -1,5 +1,6 @@
 // The run: block after block, with the settings between, and the digest of each slot's samples.
 use crate::layout;
+use crate::refused;
 use crate::settings;
 use format::Format;
 use plan::Plan;
@@ -9,13 +10,16 @@ use signals::BLOCK;
 use signals::digest;
 use signals::inputs;
 ghost use mathlib.Core.Path.{_≡_};
-ghost use Prim.Native.Nat.{_+_, _≤_, _<_};
+ghost use Prim.Native.Nat.{_+_, _<_};
 ghost use lib.ListN.{length};
 
 // The channels of all slots.
 const CHANNELS: usize = 19;
 
 pub const OUTPUT: usize = CHANNELS * BLOCK;
+
+// Four seconds at 48,000 samples a second.
+const BLOCKS: usize = 750;
 
 // One block of what the inputs carry, from a sample on. Requires samples that a u32 counts.
 pub fn ran(
@@ -99,7 +103,7 @@ fn played(
     }
 }
 
-// The settings before a block, and the block. Requires as `played`.
+// What happens before a block, and the block. Requires as `played`.
 fn block(
     from: usize,
     plan: Plan,
@@ -116,6 +120,16 @@ fn block(
     if let Answer::Refused(r) = settings::before(from, plan.nodes, floats, words) {
         return Answer::Refused(r);
     }
+    refused::before(
+        from,
+        plan,
+        indices,
+        coefficients,
+        floats,
+        words,
+        steps,
+        buffers,
+    );
     played(
         from,
         plan,
@@ -129,11 +143,8 @@ fn block(
     )
 }
 
-// The blocks from number `first` up to number `end`, or up to a call that is refused. Requires samples that a u32 counts, and a digest for each
-// slot.
+// All blocks, or those up to a call that is refused and should not be. Requires a digest for each slot.
 pub fn blocks(
-    first: usize,
-    end: usize,
     plan: Plan,
     indices: &[u32],
     coefficients: &[f32],
@@ -143,9 +154,9 @@ pub fn blocks(
     buffers: &mut [f32],
     digests: &mut [u32],
 ) -> Answer
-    requires { ⌜ (end ≤ 65536) × (length (now digests) ≡ 9) ⌝ }
+    requires { ⌜ length (now digests) ≡ 9 ⌝ }
 {
-    for i in first..end {
+    for i in 0..BLOCKS {
         let answer = block(
             i * BLOCK,
             plan,

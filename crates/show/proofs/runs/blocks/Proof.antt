@@ -1,5 +1,5 @@
 -- `show::runs::blocks` meets its contract. What is left of the blocks falls with each turn. Assumes nothing.
-use Prim.Native.Nat.{_-_}
+use Prim.Native.Nat.{_-_, _≤_}
 use mathlib.Core.Path.{_≡_}
 use lib.ListN.{length}
 use borrow.Author.Needs.{needs}
@@ -7,11 +7,11 @@ use Rattle.show.proofs.runs.blocks.Statement.{statement}
 use Rattle.show.proofs.runs.blocks.Tie as tie
 
 abbrev Inv-loop : tie.InvT-loop
-Inv-loop first end plan indices coefficients floats₀ words₀ steps buffers₀ digests₀ i₀ floats words buffers digests i =
-    (length floats ≡ length floats₀) × (length words ≡ length words₀) × (length buffers ≡ length buffers₀) × (length digests ≡ length digests₀)
+Inv-loop plan indices coefficients floats₀ words₀ steps buffers₀ digests₀ i₀ floats words buffers digests i =
+    (i ≤ 750) × (length floats ≡ length floats₀) × (length words ≡ length words₀) × (length buffers ≡ length buffers₀) × (length digests ≡ length digests₀)
 
 abbrev μ-loop : tie.MeasureT-loop
-μ-loop first end plan indices coefficients floats₀ words₀ steps buffers₀ digests₀ i₀ floats words buffers digests i = end - i
+μ-loop plan indices coefficients floats₀ words₀ steps buffers₀ digests₀ i₀ floats words buffers digests i = 750 - i
 
 loop-holds : tie.Need-loop-holds Inv-loop μ-loop
 loop-holds c = search needs

@@ -1,0 +1,2 @@
+-- laws of drafts and gains
+pub mod Laws

@@ -1,0 +1,3 @@
+-- What the contracts speak of: drafts and gains.
+pub mod Draft
+pub mod Gains
