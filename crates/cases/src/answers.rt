@@ -2,34 +2,12 @@
 use crate::floats;
 use refusal::Answer;
 
-// What stands between two entries of a list, before entry i.
-fn separated(i: usize, between: &[u8]) {
-    if i > 0 {
-        text::put(between);
-    }
-}
-
 // The first n of a list, or all that it has.
 pub fn samples(list: &[f32], n: usize, between: &[u8]) {
     let mut i = 0;
     while i < n && i < list.len() {
-        separated(i, between);
+        text::separated(i, between);
         floats::sample(list[i]);
-        i += 1;
-    }
-}
-
-fn input(n: u16) {
-    text::whole(n as u64);
-}
-
-// The first n of a list of inputs, or all that it has.
-fn numbers(list: &[u16], n: u32) {
-    let n = n as usize;
-    let mut i = 0;
-    while i < n && i < list.len() {
-        separated(i, b", ");
-        input(list[i]);
         i += 1;
     }
 }
@@ -40,7 +18,7 @@ pub fn inputs(list: &[u16], n: u32) {
         return;
     }
     text::put(b"[");
-    numbers(list, n);
+    text::inputs(list, n, b", ");
     text::put(b"]");
 }
 

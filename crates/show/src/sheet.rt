@@ -8,21 +8,6 @@ use trace::Sources;
 ghost use mathlib.Core.Path.{_≡_};
 ghost use lib.ListN.{length};
 
-// The first n inputs of a list.
-fn inputs(list: &[u16], n: u32) {
-    let n = n as usize;
-    let mut i = 0;
-    while i < n && i < list.len() {
-        input(list[i]);
-        i += 1;
-    }
-}
-
-fn input(n: u16) {
-    text::put(b" ");
-    text::whole(n as u64);
-}
-
 fn row(
     slot: u32,
     digest: u32,
@@ -40,8 +25,8 @@ fn row(
             names::slot(slot as usize, 14);
             text::hex(digest as u64, 8);
             text::right(n as u64, 7);
-            text::put(b" ");
-            inputs(&list, n);
+            text::put(b"  ");
+            text::inputs(&list, n, b" ");
             text::put(b"\n");
             Answer::Accepted
         }

@@ -39,6 +39,28 @@ pub fn right(n: u64, width: usize) {
     put(&digits[..count]);
 }
 
+// What stands between two entries of a list, before entry i.
+pub fn separated(i: usize, between: &[u8]) {
+    if i > 0 {
+        put(between);
+    }
+}
+
+fn input(n: u16) {
+    whole(n as u64);
+}
+
+// The first n of a list of inputs, or all that it has.
+pub fn inputs(list: &[u16], n: u32, between: &[u8]) {
+    let n = n as usize;
+    let mut i = 0;
+    while i < n && i < list.len() {
+        separated(i, between);
+        input(list[i]);
+        i += 1;
+    }
+}
+
 // The number of a refusal.
 pub fn refused(r: Refusal) {
     put(b"refused ");

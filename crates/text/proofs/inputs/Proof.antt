@@ -1,20 +1,17 @@
--- `cases::answers::numbers` meets its contract: what is left of the n falls with each turn. Assumes nothing.
+-- `text::inputs` meets its contract: what is left of the n falls with each turn. Assumes nothing.
 use Prim.Native.Nat.{_-_}
 use borrow.Author.Needs.{needs}
-use Rattle.cases.proofs.answers.numbers.Statement.{statement}
-use Rattle.cases.proofs.answers.numbers.Tie as tie
+use Rattle.text.proofs.inputs.Statement.{statement}
+use Rattle.text.proofs.inputs.Tie as tie
 
 abbrev Inv-loop : tie.InvT-loop
-Inv-loop list n n' i₀ t5 i = Unit {0}
+Inv-loop list n between n' i₀ i = Unit {0}
 
 abbrev μ-loop : tie.MeasureT-loop
-μ-loop list n n' i₀ t5 i = n' - i
+μ-loop list n between n' i₀ i = n' - i
 
 loop-holds : tie.Need-loop-holds Inv-loop μ-loop
 loop-holds c = search needs
-
-slice-aggregate-separated : tie.Need-slice-aggregate-separated Inv-loop μ-loop
-slice-aggregate-separated c = search needs
 
 separated-requires : tie.Need-separated-requires Inv-loop μ-loop
 separated-requires c κs = search needs
@@ -43,14 +40,13 @@ returns c = search needs
 returns-2 : tie.Need-returns-2 Inv-loop μ-loop
 returns-2 c = search needs
 
-pub numbers-spec : {M : Type 1} → statement M
-numbers-spec =
+pub inputs-spec : {M : Type 1} → statement M
+inputs-spec =
     tie.close
     (tie.spec
     Inv-loop
     μ-loop
     loop-holds
-    slice-aggregate-separated
     separated-requires
     mul-input
     shared-slice-read-input
