@@ -2,6 +2,7 @@
 use crate::answers;
 use crate::floats;
 use fold::FoldGains;
+use format::Format;
 use refusal::Answer;
 
 // Case 7.
@@ -29,13 +30,19 @@ pub fn folded(normalise: bool) {
         lfe: 0.0,
     };
     let mut out = [0.0f32; 6];
-    let answer = fold::width_matrix(3, 0, gains, normalise, &mut out);
+    let answer = fold::width_matrix(
+        Format::SURROUND_51,
+        Format::MONO,
+        gains,
+        normalise,
+        &mut out,
+    );
     entries(answer, &out);
 }
 
 // Case 10: of 5.1.
 pub fn balanced(b: f64) {
     let mut out = [0.0f32; 6];
-    let answer = format::balance_of(3, b, &mut out);
+    let answer = format::balance_of(Format::SURROUND_51, b, &mut out);
     entries(answer, &out);
 }

@@ -6,6 +6,8 @@ mod gains;
 mod plans;
 mod runs;
 
+use plan::Step;
+
 fn case_1_to_3() {
     text::put(b"1. New [1], ramp 4, block 2: gains ");
     runs::ramped(2, &[0, 0, 0, 2]);
@@ -64,13 +66,13 @@ fn case_11() {
     text::put(b", 1025 ");
     checks::block(1025);
     text::put(b"; Matrix 12 by 2 ");
-    checks::step(&[2296, 0, 0, 12, 12, 2]);
+    checks::step(&[Step::MATRIX_MAP, 0, 0, 12, 12, 2]);
     text::put(b", 5 by 5 ");
-    checks::step(&[2296, 0, 0, 5, 5, 5]);
+    checks::step(&[Step::MATRIX_MAP, 0, 0, 5, 5, 5]);
     text::put(b"; input 255 ");
-    checks::step(&[7, 255, 0, 0]);
+    checks::step(&[Step::PATCH_MAP, 255, 0, 0]);
     text::put(b", 256 ");
-    checks::step(&[7, 256, 0, 0]);
+    checks::step(&[Step::PATCH_MAP, 256, 0, 0]);
     text::put(b".\n");
 }
 
