@@ -1,5 +1,5 @@
 -- What a refused draft keeps, and what a call makes of one that is not; the ways out of `width`. Assumes nothing.
-use Prim.Native.Nat.{ℕ, _<_, _≤_}
+use Prim.Native.Nat.{_<_, _≤_}
 use mathlib.Core.Path.{_≡_, refl, sym, ap, _∙_}
 use mathlib.Core.Bool.{Bool, true, false, true≢false}
 use mathlib.Core.List.{List}
@@ -11,11 +11,11 @@ use Rattle.refusal.specs.Tests.{refusal, outcome}
 use Rattle.refusal.specs.declared.Refusal.{Refusal}
 use Rattle.refusal.specs.declared.Answer.{Answer}
 use Rattle.refusal.specs.declared.Answer.the-variants.{Accepted, Refused}
+use Rattle.format.specs.declared.Stereo.{Stereo}
+use Rattle.format.specs.Balance.{stereoMatrix}
 use Rattle.desk.specs.declared.draft.Draft.{Draft}
 use Rattle.desk.specs.Draft.{refused, made}
 use Rattle.desk.specs.Gains.{answerOf, stored, widthAnswer, widthArea}
-use Rattle.format.specs.declared.Stereo.{Stereo}
-use Rattle.format.specs.Balance.{stereoMatrix}
 
 -- ---- drafts
 

@@ -25,6 +25,7 @@ fn cleared(draft: Draft, slot: usize, indices: &mut [u32], steps: &mut [u32]) ->
     draft::with_line(draft, layout::bus(slot), dst)
 }
 
+// The buses of sends, before any send.
 pub fn all(draft: Draft, indices: &mut [u32], steps: &mut [u32]) -> Draft {
     let mut draft = draft;
     for slot in 0..layout::SLOTS {

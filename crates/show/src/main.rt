@@ -58,6 +58,7 @@ fn stopped(answer: Answer) {
 }
 
 fn main() {
+    // The areas of the plan, each longer than it needs.
     let mut indices = [0u32; 64];
     let mut coefficients = [0.0f32; 256];
     let mut floats = [0.0f32; 2_880];

@@ -84,6 +84,7 @@ pub fn counts(plan: Plan) {
     text::put(b" words");
 }
 
+// The head of the run, and what its first block begins with.
 pub fn run() {
     text::put(b"\nRun: 750 blocks of 256 samples, four seconds at 48,000 a second\n");
     text::put(b"       0  every level fades in over 4,800 samples\n");

@@ -123,6 +123,7 @@ fn bad_settings(from: usize, nodes: usize, floats: &mut [f32], words: &mut [u32]
     );
 }
 
+// The three of them, before their block, and nothing before another.
 pub fn before(
     from: usize,
     plan: Plan,

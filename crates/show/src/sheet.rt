@@ -47,6 +47,7 @@ pub fn rows(digests: &[u32], plan: Plan, indices: &[u32], words: &[u32], steps: 
     Answer::Accepted
 }
 
+// Whether the plan is clean, which ends the line of its counts.
 pub fn clean(plan: Plan, indices: &[u32], words: &[u32], steps: &[u32]) -> Answer {
     match trace::clean_answer(plan, indices, words, steps) {
         CleanAnswer::Refused(r) => Answer::Refused(r),
