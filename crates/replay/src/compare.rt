@@ -1,7 +1,6 @@
 // What a call gave, beside what the file has. Each comparison writes the first difference to the standard output.
 use crate::data;
 use crate::data::area;
-use crate::text;
 use comparison::Comparison;
 use comparison::floats;
 use plan::Plan;
@@ -14,15 +13,15 @@ ghost use Rattle.comparison.specs.Lists.{word, sample, compared};
 fn differs(what: &[u8], reference: u32, here: u32) {
     text::put(what);
     text::put(b": reference ");
-    text::hex(reference);
+    text::hex(reference as u64, 8);
     text::put(b", here ");
-    text::hex(here);
+    text::hex(here as u64, 8);
 }
 
 fn differs_at(what: &[u8], i: usize, reference: u32, here: u32) {
     text::put(what);
     text::put(b"[");
-    text::place(i);
+    text::whole(i as u64);
     differs(b"]", reference, here);
 }
 

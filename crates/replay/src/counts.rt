@@ -3,7 +3,6 @@
 use crate::data;
 use crate::data::word;
 use crate::kinds;
-use crate::text;
 
 const REFUSED: u32 = 32;
 
@@ -54,7 +53,7 @@ fn name(i: u32) {
         kinds::name(i);
         return;
     }
-    text::small(i - REFUSED);
+    text::whole((i - REFUSED) as u64);
 }
 
 fn line(tally: &[u64], i: u32) {

@@ -3,7 +3,6 @@ use crate::counts;
 use crate::data;
 use crate::data::word;
 use crate::records;
-use crate::text;
 ghost use mathlib.Core.Path.{_≡_};
 ghost use lib.ListN.{length};
 ghost use Rattle.replay.specs.Lists.{Front};

@@ -1,5 +1,5 @@
 // The kinds of records.
-use crate::text::put;
+use text::put;
 
 pub const NEW: u32 = 1;
 

@@ -10,7 +10,6 @@ mod folds;
 mod kinds;
 mod records;
 mod runs;
-mod text;
 mod traces;
 
 ghost use mathlib.Core.Path.{_≡_};

@@ -7,7 +7,6 @@ use crate::data::word;
 use crate::folds;
 use crate::kinds;
 use crate::runs;
-use crate::text;
 use crate::traces;
 
 // One more than there are kinds, since they start at 1.
@@ -159,14 +158,14 @@ fn same(words: &[u32], record: &[u32]) -> bool {
 
 fn not_whole(i: u32) {
     text::put(b"bad data: record ");
-    text::small(i);
+    text::whole(i as u64);
     text::put(b" is not whole\n");
 }
 
 // Behind the difference that the comparison has written.
 fn differs(record: &[u32], i: u32) {
     text::put(b"\ndifference in record ");
-    text::small(i);
+    text::whole(i as u64);
     text::put(b", ");
     kinds::name(word(record, 0));
     text::put(b"\n");
