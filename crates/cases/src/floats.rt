@@ -1,4 +1,6 @@
 // A float on the standard output, exactly.
+use comparison::floats;
+
 const SIGN: u64 = 0x8000_0000_0000_0000;
 
 const NAN: u64 = 0x7ff8_0000_0000_0000;
@@ -9,17 +11,9 @@ const HIDDEN: u64 = 0x10_0000_0000_0000;
 // The exponent field of the f64 from 2^52 up to 2^53, whose digits are a whole number.
 const WHOLE: u64 = 1075;
 
-// The bits of x, and one pattern for all NaN.
-fn pattern(x: f64) -> u64 {
-    if x != x {
-        return NAN;
-    }
-    f64::to_bits(x)
-}
-
 // x, exactly.
 pub fn number(x: f64) {
-    let bits = pattern(x);
+    let bits = floats::bits_of_double(x);
     if bits >= SIGN {
         text::put(b"-");
     }
@@ -109,7 +103,7 @@ fn power(m: u64, f: u64) {
 // x with its sign, + too.
 pub fn signed(x: f32) {
     let x = std::num::f32_to_f64_with_nan(x);
-    if pattern(x) < SIGN {
+    if floats::bits_of_double(x) < SIGN {
         text::put(b"+");
     }
     number(x);

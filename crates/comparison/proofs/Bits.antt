@@ -6,16 +6,9 @@ use lib.Dec.{T}
 use borrow.Author.Tests.{lt-ltb, le-ltb}
 use lib.Ieee.{Float, nan, inf, fin, Format, ne, isNan, nanBits, ofBits, hid, ones, top}
 use lib.Ieee.Bits.{nanBits-is, nanBits-above}
-use lib.Ieee.Compare.{nan-differs, differs-from-itself}
+use lib.Ieee.Compare.{differs-from-itself}
 
--- a float that equals itself is no NaN
-pub no-nan : (x : Float) → ne x x ≡ false → T (not (isNan x))
-unfolding isNan
-no-nan nan h = absurd (true≢false (sym nan-differs ∙ h))
-no-nan (inf s) h = tt
-no-nan (fin s m e) h = tt
-
--- one that does not is
+-- a float that does not equal itself is a NaN
 pub is-nan : (x : Float) → ne x x ≡ true → x ≡ nan
 is-nan x h = differs-from-itself x (subst T (sym h) tt)
 

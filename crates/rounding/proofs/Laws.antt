@@ -1,12 +1,14 @@
--- The laws of `narrowed`: by fractions, NaN, sign, order, what it keeps, its error, where it overflows; and what `≡` means for floats. Assumes nothing.
+-- The laws of `narrowed`: by fractions, NaN, sign, order, what it keeps, its error, where it overflows; and what `≡` and the code's `x != x` mean
+-- for floats. Assumes nothing.
 use mathlib.Core.Path.{_≡_, refl, sym, ap, _∙_, subst}
 use mathlib.Core.Logic.{inl, inr, _↔_}
-use mathlib.Core.Bool.{Bool, true, not, _&&_, _||_}
+use mathlib.Core.Bool.{Bool, true, false, not, _&&_, _||_, true≢false}
 use Prim.Native.Nat.{ℕ, _+_, _-_, _*_, _/_, _^_, _≤_, _<_}
 use lib.Dec.{T, eqb, eqb→eq}
-use lib.Ieee.{Float, nan, inf, fin, Format, binary32, binary64, size, round, neg, le, fits, isNan, ofBits, toBits}
+use lib.Ieee.{Float, nan, inf, fin, Format, binary32, binary64, size, round, neg, le, ne, fits, isNan, ofBits, toBits}
 use lib.Ieee.Fits.{and-l, and-r, eq→eqb, cond-fits, nan-fits, neg-fits, fits-widens}
 use lib.Ieee.Bits.{ofBits-toBits, ofBits-fits, nanBits-is, is-true}
+use lib.Ieee.Compare.{nan-differs}
 use lib.Ieee.Exact.{HasValue}
 use lib.Ieee.Scale.{grid, finite}
 use Rattle.rounding.specs.Narrow.{narrowedBits, narrowed, rounded, sameFloat}
@@ -29,6 +31,13 @@ unfolding narrowed
 narrowed-fits x =
     let b = narrowedBits (toBits binary64 x) in
     cond-fits binary32 (isNan x) nan (ofBits binary32 b) (nan-fits binary32) (ofBits-fits binary32 b)
+
+-- A float that equals itself is no NaN.
+pub no-nan : (x : Float) → ne x x ≡ false → T (not (isNan x))
+unfolding isNan
+no-nan nan h = absurd (true≢false (sym nan-differs ∙ h))
+no-nan (inf s) h = tt
+no-nan (fin s m e) h = tt
 
 -- It is a NaN exactly for a NaN.
 pub narrowed-nan : narrowed nan ≡ nan

@@ -1,17 +1,15 @@
 // A digest of samples: the 32-bit FNV-1a of their bytes, each sample's lowest byte first. Any file of the samples has it too.
 use crate::BLOCK;
+use comparison::floats;
 ghost use mathlib.Core.Path.{_≡_};
 ghost use Prim.Native.Nat.{_/_, _<_};
 ghost use lib.ListN.{length};
-ghost use lib.Ieee.{toBits, binary32};
 ghost use Rattle.signals.specs.Digest.{withByte, withWord, withSample, ofWords, ofSamples, withFrame, withFrames};
 
 // The digest of nothing.
 pub const START: u32 = 0x811c_9dc5;
 
 const PRIME: u64 = 0x0100_0193;
-
-const NAN: u32 = 0x7fc0_0000;
 
 fn wide(n: u32) -> u64
     ensures { λ r. ⌜ r ≡ n ⌝ }
@@ -34,20 +32,10 @@ fn with_word(digest: u32, word: u32) -> u32
     with_byte(third, word / 16_777_216)
 }
 
-// The bits of a sample, and one pattern for all NaN.
-fn pattern(x: f32) -> u32
-    ensures { λ r. ⌜ r ≡ toBits binary32 x ⌝ }
-{
-    if x != x {
-        return NAN;
-    }
-    f32::to_bits(x)
-}
-
 fn with_sample(digest: u32, x: f32) -> u32
     ensures { λ r. ⌜ r ≡ withSample digest x ⌝ }
 {
-    with_word(digest, pattern(x))
+    with_word(digest, floats::bits_of(x))
 }
 
 pub fn of_words(digest: u32, list: &[u32]) -> u32

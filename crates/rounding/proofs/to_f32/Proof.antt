@@ -1,16 +1,17 @@
 -- `rounding::to_f32` meets its contract. Assumes nothing.
 use borrow.Author.Needs.{needs}
 use mathlib.Core.Path.{_≡_, refl, sym, ap, _∙_, subst}
-use mathlib.Core.Bool.{false, not, true≢false}
+use mathlib.Core.Bool.{not}
 use Prim.Native.Nat.{ℕ, _+_, _*_, _/_, _%_, _^_, _<_}
 use native.Mathlib.Omega.{arith}
 use lib.Dec.{T}
 use lib.Pow.{mod-mod-pow}
-use lib.Ieee.{Float, nan, inf, fin, binary32, binary64, ne, div, fits, isNan, nanBits, ofBits, toBits}
+use lib.Ieee.{nan, binary32, binary64, div, fits, isNan, nanBits, ofBits, toBits}
 use lib.Ieee.Bits.{toBits-lt}
-use lib.Ieee.Compare.{differs-from-itself, nan-differs}
+use lib.Ieee.Compare.{differs-from-itself}
 use Rattle.rounding.specs.Narrow.{pattern, narrowedBits, narrowed}
 use Rattle.rounding.proofs.Pattern.{bits-below, bits-no-nan, narrowed-number}
+use Rattle.rounding.proofs.Laws.{no-nan}
 use Rattle.rounding.proofs.to_f32.Statement.{statement}
 use Rattle.rounding.proofs.to_f32.Tie as tie
 
@@ -18,12 +19,6 @@ use Rattle.rounding.proofs.to_f32.Tie as tie
 nan-made : div binary32 (ofBits binary32 0) (ofBits binary32 0) ≡ narrowed nan
 unfolding div ofBits narrowed isNan
 nan-made = refl
-
-no-nan : (x : Float) → ne x x ≡ false → T (not (isNan x))
-unfolding isNan
-no-nan nan h = absurd (true≢false (sym nan-differs ∙ h))
-no-nan (inf s) h = tt
-no-nan (fin s m e) h = tt
 
 -- an f64's format holds it, so it has 64 bits
 fits-f64 : (c : tie.Start) → T (fits binary64 (c .args .x))

@@ -1,7 +1,8 @@
 -- `comparison::floats::bits_of_double` meets its contract. Assumes nothing.
 use mathlib.Core.Path.{sym, ap}
 use lib.Ieee.{binary64, toBits}
-use Rattle.comparison.proofs.Bits.{no-nan, is-nan}
+use Rattle.rounding.proofs.Laws.{no-nan}
+use Rattle.comparison.proofs.Bits.{is-nan}
 use borrow.Author.Needs.{needs}
 use Rattle.comparison.proofs.floats.bits_of_double.Statement.{statement}
 use Rattle.comparison.proofs.floats.bits_of_double.Tie as tie

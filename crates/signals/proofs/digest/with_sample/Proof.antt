@@ -4,8 +4,8 @@ use borrow.Author.Needs.{needs}
 use Rattle.signals.proofs.digest.with_sample.Statement.{statement}
 use Rattle.signals.proofs.digest.with_sample.Tie as tie
 
-pattern-requires : tie.Need-pattern-requires
-pattern-requires c κs = search needs
+bits-of-requires : tie.Need-bits-of-requires
+bits-of-requires c κs = search needs
 
 with-word-requires : tie.Need-with-word-requires
 with-word-requires c κs = search needs
@@ -15,4 +15,4 @@ unfolding withSample
 returns c = cc
 
 pub with-sample-spec : {M : Type 1} → statement M
-with-sample-spec = tie.close (tie.spec pattern-requires with-word-requires returns)
+with-sample-spec = tie.close (tie.spec bits-of-requires with-word-requires returns)
