@@ -1,6 +1,6 @@
 -- The tests 5 and 2 of each call, without the counts that it does not use. Assumes nothing.
 use mathlib.Core.Path.{_≡_, refl, ap, _∙_}
-use mathlib.Core.Bool.{Bool, _||_, or-false}
+use mathlib.Core.Bool.{_||_, or-false}
 use Prim.Native.Nat.{ℕ, _+_}
 use native.Mathlib.Nat.{mul-one}
 use lib.Dec.{ltb}

@@ -20,7 +20,7 @@ use Rattle.plan.specs.Sound.{Passes}
 use Rattle.plan.proofs.Answers.{rest-of}
 use Rattle.plan.proofs.Words.{decoded-on, decoded-bad, decoded-none}
 use Rattle.plan.proofs.Accepted.{pass-inside, pass-narrow, pass-apart, pass-rest}
-use Rattle.run.specs.Run.{State, state, stepped, runSteps}
+use Rattle.run.specs.Run.{State, stepped, runSteps}
 use Rattle.run.specs.Loops.{channels, channelsOf, Fit, FitStep}
 use Rattle.run.proofs.Outputs.{wrote-more}
 

@@ -11,11 +11,10 @@ use lib.ListN.{length, getD, take, drop, set, length-set, length-append, take-ap
 use lib.Seq.{sets, length-sets, sets-eq, set-getD, set-append-left, drop-drop, getD-take, getD-drop, length-take-le}
 use lib.Ieee.{Float, nan}
 use borrow.Author.Tests.{ne-eqb}
-use Rattle.lists.specs.Parts.{part, upto}
+use Rattle.lists.specs.Parts.{part}
 use Rattle.lists.proofs.Stores.{length-part, sets-append, getD-sets, getD-sets-at, part-sets-after}
 use Rattle.lists.proofs.Filled.{upto-more, upto-past, length-upto}
 use Rattle.node.specs.Sizes.{maxValues, nodeFloats, nodeWords}
-use Rattle.node.specs.declared.Node.{Node}
 use Rattle.node.specs.Nodes.{at, changed, onRamp, advanced, finishBlock}
 use Rattle.node.specs.Areas.{Room, lenAt, leftAt, nodeAt, floatsOf, wordsOf, storedFloats, storedWords}
 use Rattle.node.proofs.Left.{finish-rest}

@@ -5,7 +5,7 @@ use mathlib.Core.List.{List, foldl}
 use native.Mathlib.Numerals.{add-one}
 use native.Mathlib.Omega.{arith}
 use native.Mathlib.Nat.{mul-le-mul-left, mul-lt-mul-of-pos-right, lt-of-le-of-lt, le-of-lt}
-use lib.ListN.{length, getD, drop, set, length-set, drop-of-length-le}
+use lib.ListN.{length, getD, drop, length-set, drop-of-length-le}
 use lib.Pow.{pow-pos, pow-add}
 use lib.Seq.{drop-cons}
 use lib.Ieee.{Float}

@@ -1,6 +1,6 @@
 -- `run::directory::first_entries` meets its contract: the invariant is that the entries from `entry` on were gone through. Assumes nothing.
 use mathlib.Core.Path.{_≡_, refl}
-use Prim.Native.Nat.{_≤_, _-_, _*_}
+use Prim.Native.Nat.{_≤_, _-_}
 use native.Mathlib.Omega.{arith}
 use lib.ListN.{length, length-set}
 use Rattle.plan.specs.Limits.{inputs}

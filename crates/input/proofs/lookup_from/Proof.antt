@@ -1,6 +1,6 @@
 -- `run::directory::lookup_from` meets its contract. Assumes nothing.
-use mathlib.Core.Path.{_≡_, refl, sym, _∙_}
-use Prim.Native.Nat.{_≤_, _-_, _*_, _+_}
+use mathlib.Core.Path.{_≡_, sym, _∙_}
+use Prim.Native.Nat.{_-_, _*_, _+_}
 use native.Mathlib.Omega.{arith}
 use Rattle.plan.proofs.Answers.{rest-of}
 use Rattle.input.specs.Input.{lookup, lookupFrom}

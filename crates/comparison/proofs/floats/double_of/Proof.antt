@@ -1,6 +1,6 @@
 -- `comparison::floats::double_of` meets its contract. Assumes nothing.
 use mathlib.Core.Path.{sym}
-use lib.Ieee.{nan, binary64, div, ofBits}
+use lib.Ieee.{binary64, div, ofBits}
 use Rattle.comparison.proofs.Bits.{nan-read, number-read}
 use borrow.Author.Needs.{needs}
 use Rattle.comparison.proofs.floats.double_of.Statement.{statement}

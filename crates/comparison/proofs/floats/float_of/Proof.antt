@@ -1,6 +1,6 @@
 -- `comparison::floats::float_of` meets its contract. Assumes nothing.
 use mathlib.Core.Path.{sym}
-use lib.Ieee.{nan, binary32, div, ofBits}
+use lib.Ieee.{binary32, div, ofBits}
 use Rattle.comparison.proofs.Bits.{nan-read, number-read}
 use borrow.Author.Needs.{needs}
 use Rattle.comparison.proofs.floats.float_of.Statement.{statement}

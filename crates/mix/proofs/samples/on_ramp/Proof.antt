@@ -1,5 +1,4 @@
 -- `on_ramp` meets its contract: by the arm that the match took. Assumes nothing.
-use mathlib.Core.Path.{sym, ap}
 use borrow.Author.Needs.{needs}
 use Rattle.mix.specs.Loops.{ramping}
 use Rattle.mix.proofs.samples.on_ramp.Statement.{statement}

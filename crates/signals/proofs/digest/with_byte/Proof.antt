@@ -1,5 +1,4 @@
 -- `signals::digest::with_byte` meets its contract: the product of 32 bits and of the prime fits a u64. Assumes nothing.
-use Prim.Native.Nat.{_^_}
 use native.Mathlib.Omega.{arith}
 use lib.Bits.{xor-lt}
 use Rattle.signals.specs.Digest.{withByte}

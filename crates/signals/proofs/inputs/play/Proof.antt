@@ -1,10 +1,8 @@
 -- `signals::inputs::play` meets its contract. The loop's invariant: the first c channels are stored. Assumes nothing.
 use Prim.Native.Nat.{ℕ, _-_, _*_, _≤_}
 use mathlib.Core.Path.{_≡_, refl, ap, _∙_}
-use mathlib.Core.List.{List}
 use native.Mathlib.Numerals.{add-one}
 use native.Mathlib.Omega.{arith}
-use lib.Ieee.{Float}
 use lib.ListN.{length, getD}
 use Rattle.signals.specs.Signals.{pitches, filled, played}
 use Rattle.signals.proofs.Laws.{played-length}

@@ -2,7 +2,6 @@
 use native.Mathlib.Omega.{arith}
 use borrow.Author.Tests.{lt-ltb, le-ltb}
 use Rattle.signals.specs.Signals.{triangle}
-use mathlib.Core.Path.{refl}
 use borrow.Author.Needs.{needs}
 use Rattle.signals.proofs.inputs.triangle.Statement.{statement}
 use Rattle.signals.proofs.inputs.triangle.Tie as tie
