@@ -11,8 +11,8 @@ ghost use Rattle.adoption.specs.Fits.{Fit};
 fn short_nodes(count: usize, floats: &[f32], words: &[u32]) -> bool
     ensures { λ r. ⌜ r ≡ shortNodes (lent count (now (floats .entry)) (now (words .entry))) ⌝ }
 {
-    plan::shorter(floats.len(), count, Node::FLOATS)
-        | plan::shorter(words.len(), count, Node::WORDS)
+    plan_areas::shorter(floats.len(), count, Node::FLOATS)
+        | plan_areas::shorter(words.len(), count, Node::WORDS)
 }
 
 // The tests, in their order. It writes nothing.

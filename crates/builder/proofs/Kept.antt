@@ -8,8 +8,8 @@ use native.Mathlib.Omega.{arith}
 use lib.ListN.{length, take, replicate, length-replicate}
 use lib.Ieee.{Float}
 use lib.Seq.{sets, length-sets, length-take-le}
-use Rattle.refusal.specs.declared.Answer.the-variants.{Accepted}
 use Rattle.lists.proofs.Stores.{take-sets, drop-sets}
+use Rattle.refusal.specs.declared.Answer.the-variants.{Accepted}
 use Rattle.node.specs.Sizes.{nodeFloats, nodeWords}
 use Rattle.node.specs.Nodes.{newNode}
 use Rattle.node.specs.Nodes.{silence}

@@ -10,10 +10,10 @@ use native.Mathlib.Omega.{arith}
 use lib.ListN.{length, take, length-append}
 use lib.Seq.{sets, length-take-le, take-take}
 use lib.Ieee.{Float}
+use Rattle.lists.proofs.Stores.{take-stored}
 use Rattle.refusal.specs.Tests.{outcome}
 use Rattle.refusal.specs.declared.Answer.{Answer}
 use Rattle.refusal.specs.declared.Answer.the-variants.{Accepted, Refused}
-use Rattle.lists.proofs.Stores.{take-stored}
 use Rattle.node.specs.Sizes.{nodeFloats, nodeWords}
 use Rattle.node.specs.Nodes.{newNode}
 use Rattle.node.specs.Areas.{nodeAt, nodes, storedFloats, storedWords}

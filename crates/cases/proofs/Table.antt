@@ -8,21 +8,21 @@ use Rattle.refusal.specs.Tests.{refusal}
 use Rattle.refusal.specs.declared.Answer.the-variants as answers
 use Rattle.rounding.specs.Narrow.{narrowed}
 use Rattle.rounding.proofs.Examples as rounding
-use Rattle.sets.specs.Sets.{sift}
 use Rattle.node.specs.Nodes.{gainOf}
 use Rattle.node.specs.declared.Gain.the-variants.{Rest}
-use Rattle.format.specs.Balance.{balanceAnswer, balanceArea}
-use Rattle.format.proofs.Examples as format
-use Rattle.fold.specs.declared.FoldGains.{FoldGains}
-use Rattle.fold.specs.Width.{widthAnswer, widthArea}
-use Rattle.fold.proofs.Examples as fold
+use Rattle.sets.specs.Sets.{sift}
+use Rattle.format_balance.specs.Balance.{balanceAnswer, balanceArea}
+use Rattle.format_balance.proofs.Examples as format
+use Rattle.format_fold.specs.declared.FoldGains.{FoldGains}
+use Rattle.format_fold.specs.Width.{widthAnswer, widthArea}
+use Rattle.format_fold.proofs.Examples as fold
 use Rattle.plan.specs.Words.{patchMap, gainMap, matrixMap}
 use Rattle.plan.specs.Check.{checked}
 use Rattle.builder.specs.Calls.{newAnswer}
-use Rattle.run.specs.Calls.{set}
-use Rattle.setting.specs.Setting.{nodeOf, settingFloats, settingWords}
 use Rattle.trace.specs.Calls.{sourcesAnswer, sourcesArea}
 use Rattle.trace.specs.declared.Sources.the-variants as sources
+use Rattle.setting.specs.Setting.{nodeOf, settingFloats, settingWords}
+use Rattle.run.specs.Calls.{set}
 use Rattle.cases.specs.Numbers.{over, twoTo, halfTo, plusZero, minusZero, infinity, eighth, quarter, half, threeQuarters, one, two, three, five}
 use Rattle.cases.specs.Plans.{mono, stereo, sending, runOver, Writes, nodeAfter, sourcesOf, listOf, stepChecked}
 

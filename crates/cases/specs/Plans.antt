@@ -10,19 +10,19 @@ use Rattle.refusal.specs.declared.Answer.the-variants.{Accepted}
 use Rattle.node.specs.declared.Node.{Node}
 use Rattle.node.specs.Nodes.{newNode, setNode, finishBlock, gainOf, factor}
 use Rattle.node.specs.Areas.{nodeAt, floatsOf, wordsOf, someBad, badNode}
+use Rattle.mix.specs.Samples.{sampled}
+use Rattle.mix.specs.Mix.{added, weighted, sent, columns, weighs}
 use Rattle.plan.specs.Limits.{unitLimits}
 use Rattle.plan.specs.Areas.{Areas, areas}
 use Rattle.plan.specs.Words.{patchMap, clearMap, sendMap, outputMap, stepOf, decodedFrom, decoded}
 use Rattle.plan.specs.Check.{someFrom, idAmong, idTwice, outside, has, meet, shares, stepsTests, checkPlan}
 use Rattle.builder.specs.Calls.{numbersFrom, newAnswer, buffersIndices, coefficientsArea, nodeFloatsArea, nodeWordsArea, stepArea, finishAnswer, finishArea}
 use Rattle.builder.specs.Built.{Call, buffers, coefficients, node, step}
-use Rattle.mix.specs.Samples.{sampled}
-use Rattle.mix.specs.Mix.{added, weighted, sent, columns, weighs}
+use Rattle.trace.specs.Calls.{sourcesAnswer, sourcesArea}
+use Rattle.trace.specs.declared.Sources.{Sources}
 use Rattle.run.specs.Run.{processed}
 use Rattle.run.specs.Calls.{afterAll, run}
 use Rattle.run.specs.Calls.{Call as RunCall}
-use Rattle.trace.specs.Calls.{sourcesAnswer, sourcesArea}
-use Rattle.trace.specs.declared.Sources.{Sources}
 use Rattle.theorem.specs.Builds.{Build, grown, acceptedCalls, fixed, held}
 use Rattle.theorem.specs.Journal.{Entry, setting, ran, journal}
 use Rattle.cases.specs.Numbers.{plusZero}

@@ -1,13 +1,13 @@
 // Cases 8 and 11: the lists behind the slots of a plan, and what the plan check takes.
 use crate::answers;
 use crate::plans;
-use builder::PlanBuilder;
+use builder_calls::PlanBuilder;
 use plan::Plan;
 use trace::Sources;
 
 fn list(plan: Plan, slot: u32, indices: &[u32], node_words: &[u32], steps: &[u32]) {
     let mut inputs = [0u16; 4];
-    match trace::output_sources(plan, slot, indices, node_words, steps, &mut inputs) {
+    match trace_calls::output_sources(plan, slot, indices, node_words, steps, &mut inputs) {
         Sources::Listed(n) => answers::inputs(&inputs, n),
         Sources::Refused(r) => text::refused(r),
     }
@@ -56,7 +56,7 @@ pub fn step(words: &[u32]) {
         steps: 1,
         words: words.len(),
     };
-    let answer = plan::check_plan(
+    let answer = plan_check::check_plan(
         plan,
         &[0, 1, 2, 3, 4, 5, 6, 7, 8, 9, 10, 11, 12, 13],
         &[],

@@ -1,8 +1,8 @@
 // Cases 7, 9 and 10: the rounding, a fold and a balance.
 use crate::answers;
 use crate::floats;
-use fold::FoldGains;
 use format::Format;
+use format_fold::FoldGains;
 use refusal::Answer;
 
 // Case 7.
@@ -30,7 +30,7 @@ pub fn folded(normalise: bool) {
         lfe: 0.0,
     };
     let mut out = [0.0f32; 6];
-    let answer = fold::width_matrix(
+    let answer = format_fold::width_matrix(
         Format::SURROUND_51,
         Format::MONO,
         gains,
@@ -43,6 +43,6 @@ pub fn folded(normalise: bool) {
 // Case 10: of 5.1.
 pub fn balanced(b: f64) {
     let mut out = [0.0f32; 6];
-    let answer = format::balance_of(Format::SURROUND_51, b, &mut out);
+    let answer = format_balance::balance_of(Format::SURROUND_51, b, &mut out);
     entries(answer, &out);
 }

@@ -1,8 +1,8 @@
 // A plan laid out call by call, each of which hands on the plan. A call that is refused says so on the standard output.
 use crate::answers;
 use builder::NumberAnswer;
-use builder::PlanBuilder;
 use builder::SpanAnswer;
+use builder_calls::PlanBuilder;
 use plan::Plan;
 use refusal::Answer;
 
@@ -87,7 +87,7 @@ fn stepped(plan: Plan, records: &[u32], steps: &mut [u32]) -> Plan {
         let answer = grown.answer;
         answers::refused(answer);
         plan = grown.plan;
-        let n = 1 + plan::field_count(records[at]);
+        let n = 1 + plan_reader::field_count(records[at]);
         if records.len() - at < n {
             return plan;
         }

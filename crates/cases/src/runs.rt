@@ -21,7 +21,7 @@ fn ran(
     samples: &[f32],
     output: &mut [f32],
 ) -> usize {
-    match run::process(
+    match run_process::process(
         plan,
         indices,
         coefficients,

@@ -11,8 +11,8 @@ use Rattle.refusal.specs.Tests.{refusal, outcome}
 use Rattle.refusal.specs.declared.Refusal.{Refusal}
 use Rattle.refusal.specs.declared.Answer.{Answer}
 use Rattle.refusal.specs.declared.Answer.the-variants.{Accepted, Refused}
-use Rattle.format.specs.declared.Stereo.{Stereo}
-use Rattle.format.specs.Balance.{stereoMatrix}
+use Rattle.format_balance.specs.declared.Stereo.{Stereo}
+use Rattle.format_balance.specs.Balance.{stereoMatrix}
 use Rattle.desk.specs.declared.draft.Draft.{Draft}
 use Rattle.desk.specs.Draft.{refused, made}
 use Rattle.desk.specs.Gains.{answerOf, stored, widthAnswer, widthArea}

@@ -11,9 +11,9 @@ use Rattle.refusal.specs.Tests.{test, first}
 use Rattle.refusal.specs.declared.Answer.{Answer}
 use Rattle.refusal.specs.declared.Answer.the-variants.{Accepted, Refused}
 use Rattle.rounding.specs.Narrow.{narrowed}
-use Rattle.format.specs.Balance.{stereoMatrix}
-use Rattle.format.specs.declared.Stereo.{Stereo}
-use Rattle.format.specs.declared.Stereo.the-variants as matrix
+use Rattle.format_balance.specs.Balance.{stereoMatrix}
+use Rattle.format_balance.specs.declared.Stereo.{Stereo}
+use Rattle.format_balance.specs.declared.Stereo.the-variants as matrix
 
 abbrev pub stereo : ℕ
 stereo = 1

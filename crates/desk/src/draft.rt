@@ -1,9 +1,9 @@
 // A plan while it is laid out: the builder calls, each with its reply looked at. Once one is refused no other is made, and the draft says why.
 use builder::NumberAnswer;
-use builder::Numbered;
-use builder::PlanBuilder;
 use builder::SpanAnswer;
-use builder::Spanned;
+use builder_calls::Numbered;
+use builder_calls::PlanBuilder;
+use builder_calls::Spanned;
 use plan::Plan;
 use plan::Span;
 use refusal::Answer;

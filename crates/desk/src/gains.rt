@@ -1,15 +1,15 @@
 // Gains for panners, widths and folds, worked out by the library.
-use fold::FoldGains;
 use format::Format;
-use format::Stereo;
+use format_balance::Stereo;
+use format_fold::FoldGains;
 use refusal::Answer;
 use refusal::Refusal;
 ghost use mathlib.Core.Path.{_≡_};
 ghost use mathlib.Core.Bool.{true};
 ghost use lib.ListN.{length};
-ghost use Rattle.format.specs.Balance.{balanceAnswer, balanceArea};
-ghost use Rattle.fold.specs.Bs775.{standardGains};
-ghost use Rattle.fold.specs.Width.{widthAnswer as foldAnswer, widthArea as foldArea};
+ghost use Rattle.format_balance.specs.Balance.{balanceAnswer, balanceArea};
+ghost use Rattle.format_fold.specs.Bs775.{standardGains};
+ghost use Rattle.format_fold.specs.Width.{widthAnswer as foldAnswer, widthArea as foldArea};
 ghost use Rattle.desk.specs.Gains.{stereo, widthAnswer, widthArea};
 
 // 1/√2.
@@ -19,7 +19,7 @@ const HALF_POWER: f64 = 0.7071067811865476;
 pub fn pan(b: f64, out: &mut [f32]) -> Answer
     ensures { λ r. ⌜ (r ≡ balanceAnswer stereo b (length (now (out .entry)))) × (now (out .exit) ≡ balanceArea stereo b (now (out .entry))) ⌝ }
 {
-    format::balance_of(Format::STEREO, b, out)
+    format_balance::balance_of(Format::STEREO, b, out)
 }
 
 // The width w of a stereo signal, from 0, which is mono, to 2: two rows of two columns.
@@ -29,7 +29,7 @@ pub fn width(w: f64, out: &mut [f32]) -> Answer
     if out.len() < 4 {
         return Answer::Refused(Refusal::of(Refusal::SHORT_AREA));
     }
-    match format::stereo_matrix(w, 0.0) {
+    match format_balance::stereo_matrix(w, 0.0) {
         Stereo::Refused(r) => Answer::Refused(r),
         Stereo::Matrix(ll, lr, rl, rr) => {
             out[0] = rounding::to_f32(ll);
@@ -53,5 +53,5 @@ pub fn folded(src: u32, dst: u32, out: &mut [f32]) -> Answer
         surround: HALF_POWER,
         lfe: 0.0,
     };
-    fold::width_matrix(src, dst, gains, true, out)
+    format_fold::width_matrix(src, dst, gains, true, out)
 }

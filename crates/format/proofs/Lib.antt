@@ -1,5 +1,2 @@
--- What the proofs of several functions use, here and in the crates above: `Labels`, what holds of every format and label; `Answers`, which
--- test of a call answers; `Examples`, worked examples of the definitions.
+-- What holds of every format and label, for the proofs of several functions here and in the crates above.
 pub mod Labels
-pub mod Answers
-pub mod Examples

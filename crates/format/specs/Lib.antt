@@ -1,4 +1,4 @@
--- What the crate's contracts cite: the labels, the formats, and the balance.
+-- What the contracts cite, here and in the crates above: the labels, the formats, and some numbers as floats.
 pub mod Labels
 pub mod Formats
-pub mod Balance
+pub mod Floats

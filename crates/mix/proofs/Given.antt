@@ -2,12 +2,20 @@
 -- Assumes nothing.
 use mathlib.Core.Path.{_≡_, sym, _∙_}
 use mathlib.Core.List.{List}
-use Prim.Native.Nat.{ℕ, _<_, min}
+use Prim.Native.Nat.{ℕ, suc, _+_, _*_, _<_, _≤_, min}
+use native.Mathlib.Nat.{mul-le-mul-right, suc-mul}
 use native.Mathlib.Omega.{arith}
 use lib.ListN.{length, getD, take, length-take}
 use lib.Seq.{getD-take}
 use lib.Ieee.{Float}
-use Rattle.mix.specs.Mix.{Pair, Row, Buffers, used}
+use Rattle.mix.specs.Mix.{Inside, Pair, Row, Buffers, used}
+
+-- buffer b of n is within the area
+pub buffer-inside : (n block b : ℕ) (area : List Float) → b < n → n * block ≤ length area → Inside block b area
+buffer-inside n block b area h k =
+    let e : suc b * block ≤ n * block = mul-le-mul-right block h in
+    let f : suc b * block ≡ b * block + block = suc-mul b block in
+    omega arith
 
 module _ {block : ℕ} {src : List ℕ} {a b : List Float} (e : length b ≡ length a) where
   pub pair-of : {d : ℕ} → Row block src d a → (i : ℕ) → i < length src → Pair block (getD src i 0) d b

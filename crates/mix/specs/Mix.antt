@@ -1,9 +1,10 @@
--- What Gain, Matrix, Send, Clear and Output do, as document 01's section "Run" has it: one write after another, each of a whole buffer, sample
+-- What Patch, Gain, Matrix, Send, Clear and Output do, as document 01's section "Run" has it: one write after another, each of a whole buffer, sample
 -- by sample, from the buffers as they are then. Definitions only.
 use Prim.Native.Nat.{ℕ, suc, _+_, _*_, _≤_, _<_}
 use mathlib.Core.Path.{_≡_}
 use mathlib.Core.Bool.{Bool, false, _||_, cond}
 use mathlib.Core.List.{List, [], _∷_}
+use lib.Dec.{leb}
 use lib.ListN.{length, getD, take}
 use lib.Seq.{sets}
 use lib.Ieee.{Float, nan, binary32, add, mul, eq}
@@ -40,6 +41,10 @@ weighted (Moving cur step t left) w k x = mul binary32 (mul binary32 x w) (facto
 -- "skipped whole when at rest with target[0] = 0. A weight of 0 is skipped."
 unfoldable pub sent : Gain → Float → ℕ → Float → Float → Float
 sent g w k x y = cond (isZero w || silent g) y (add binary32 y (weighted g w k x))
+
+-- what Patch copies of a part at sample k: "A part shorter than the block counts as absent", and is +0
+unfoldable pub patched : ℕ → List Float → ℕ → Float
+patched block part k = cond (leb block (length part)) (getD part k nan) silence
 
 -- ---- one buffer s into another, d
 

@@ -1,3 +1,2 @@
--- What the crate's contracts cite: the reply for each answer, and the channel lookup with a lent area.
-pub mod Replies
+-- What the crate's contracts cite: the channel lookup with a lent area.
 pub mod Lookup

@@ -11,8 +11,8 @@ use Rattle.refusal.specs.Tests.{Test, test, first, outcome, areaAfter}
 use Rattle.refusal.specs.declared.Answer.{Answer}
 use Rattle.refusal.specs.declared.Answer.the-variants.{Accepted}
 use Rattle.input.specs.Input.{lookup}
-use Rattle.mixer.specs.declared.CountReply.{CountReply}
-use Rattle.mixer.specs.Replies.{counted, notCounted}
+use Rattle.mixer_replies.specs.declared.CountReply.{CountReply}
+use Rattle.mixer_replies.specs.Replies.{counted, notCounted}
 
 -- of a part, with an area of n floats
 abbrev pub partTests : List Float → ℕ → List Test

@@ -1,13 +1,13 @@
 // The builder calls, of crate `builder`.
-use crate::BufferReply;
-use crate::NodeReply;
-use crate::PlanReply;
-use crate::SpanReply;
-use crate::replies::buffer_reply;
-use crate::replies::node_reply;
-use crate::replies::plan_reply;
-use crate::replies::span_reply;
-use builder::PlanBuilder;
+use builder_calls::PlanBuilder;
+use mixer_replies::BufferReply;
+use mixer_replies::NodeReply;
+use mixer_replies::PlanReply;
+use mixer_replies::SpanReply;
+use mixer_replies::buffer_reply;
+use mixer_replies::node_reply;
+use mixer_replies::plan_reply;
+use mixer_replies::span_reply;
 use plan::Plan;
 use plan::Span;
 ghost use mathlib.Core.Path.{_≡_};
@@ -15,7 +15,7 @@ ghost use lib.ListN.{length};
 ghost use Rattle.plan.specs.Limits.{unitLimits};
 ghost use Rattle.builder.specs.Growth.{buffersGrowth, coefficientsGrowth, nodeGrowth, stepGrowth};
 ghost use Rattle.builder.specs.Calls.{planAfter, newAnswer, emptyPlan, buffersAnswer, buffersIndices, buffersSpan, firstBuffers, bufferNumber, coefficientsAnswer, coefficientsArea, coefficientsSpan, nodeAnswer, nodeFloatsArea, nodeWordsArea, nodeNumber, recordLength, stepAnswer, stepArea, finishAnswer, finishArea};
-ghost use Rattle.mixer.specs.Replies.{planReply, spanReply, nodeReply, bufferReply};
+ghost use Rattle.mixer_replies.specs.Replies.{planReply, spanReply, nodeReply, bufferReply};
 
 #[no_mangle]
 pub extern "C" fn mixer_new(block: usize) -> PlanReply

@@ -1,19 +1,19 @@
 // The calls of crates `format`, `fold` and `rounding`.
-use crate::GainsReply;
-use crate::Status;
-use crate::StereoReply;
-use crate::replies::gains_reply;
-use crate::replies::status_of;
-use crate::replies::stereo_reply;
-use fold::FoldGains;
 use format::Format;
+use format_fold::FoldGains;
+use mixer_replies::GainsReply;
+use mixer_replies::Status;
+use mixer_replies::StereoReply;
+use mixer_replies::gains_reply;
+use mixer_replies::status_of;
+use mixer_replies::stereo_reply;
 ghost use mathlib.Core.Path.{_≡_};
 ghost use lib.ListN.{length};
 ghost use Rattle.rounding.specs.Narrow.{narrowed};
 ghost use Rattle.format.specs.Formats.{channels, labelOf, indexOf, has};
-ghost use Rattle.format.specs.Balance.{balanceGains, balanceAnswer, balanceArea, stereoMatrix};
-ghost use Rattle.fold.specs.Width.{widthAnswer, widthArea};
-ghost use Rattle.mixer.specs.Replies.{statusOf, gainsReply, stereoReply};
+ghost use Rattle.format_balance.specs.Balance.{balanceGains, balanceAnswer, balanceArea, stereoMatrix};
+ghost use Rattle.format_fold.specs.Width.{widthAnswer, widthArea};
+ghost use Rattle.mixer_replies.specs.Replies.{statusOf, gainsReply, stereoReply};
 
 #[no_mangle]
 pub extern "C" fn mixer_format_channels(format: u32) -> usize
@@ -47,7 +47,7 @@ pub extern "C" fn mixer_format_has(format: u32, label: u32) -> bool
 pub extern "C" fn mixer_balance_gains(balance: f64) -> GainsReply
     ensures { λ r. ⌜ r ≡ gainsReply (balanceGains balance) ⌝ }
 {
-    gains_reply(format::balance_gains(balance))
+    gains_reply(format_balance::balance_gains(balance))
 }
 
 #[no_mangle]
@@ -55,14 +55,14 @@ pub extern "C" fn mixer_balance_of(format: u32, balance: f64, gains: &mut [f32])
     ensures reply { λ r. ⌜ r ≡ statusOf (balanceAnswer format balance (length (now (gains .entry)))) ⌝ }
     ensures gains { λ _. ⌜ now (gains .exit) ≡ balanceArea format balance (now (gains .entry)) ⌝ }
 {
-    status_of(format::balance_of(format, balance, gains))
+    status_of(format_balance::balance_of(format, balance, gains))
 }
 
 #[no_mangle]
 pub extern "C" fn mixer_stereo_matrix(width: f64, balance: f64) -> StereoReply
     ensures { λ r. ⌜ r ≡ stereoReply (stereoMatrix width balance) ⌝ }
 {
-    stereo_reply(format::stereo_matrix(width, balance))
+    stereo_reply(format_balance::stereo_matrix(width, balance))
 }
 
 #[no_mangle]
@@ -76,7 +76,7 @@ pub extern "C" fn mixer_width_matrix(
     ensures reply { λ r. ⌜ r ≡ statusOf (widthAnswer src dst gains (length (now (matrix .entry)))) ⌝ }
     ensures matrix { λ _. ⌜ now (matrix .exit) ≡ widthArea src dst gains normalise (now (matrix .entry)) ⌝ }
 {
-    status_of(fold::width_matrix(src, dst, gains, normalise, matrix))
+    status_of(format_fold::width_matrix(src, dst, gains, normalise, matrix))
 }
 
 #[no_mangle]

@@ -1,10 +1,10 @@
 // The plan check, of crate `plan`, the calls of crate `run`, and `adopt`, of crate `adoption`.
-use crate::CountReply;
-use crate::Status;
-use crate::replies::counted;
-use crate::replies::not_counted;
-use crate::replies::ran_reply;
-use crate::replies::status_of;
+use mixer_replies::CountReply;
+use mixer_replies::Status;
+use mixer_replies::counted;
+use mixer_replies::not_counted;
+use mixer_replies::ran_reply;
+use mixer_replies::status_of;
 use plan::Plan;
 use refusal::Refusal;
 ghost use mathlib.Core.Path.{_≡_};
@@ -15,7 +15,7 @@ ghost use Rattle.input.specs.Input.{directoryBad};
 ghost use Rattle.setting.specs.Setting.{settingAnswer, settingFloats, settingWords};
 ghost use Rattle.run.specs.Run.{given, state, processed, processAnswer};
 ghost use Rattle.adoption.specs.Adoption.{lent, adoptionAnswer, adoptionFloats, adoptionWords};
-ghost use Rattle.mixer.specs.Replies.{statusOf, ranReply};
+ghost use Rattle.mixer_replies.specs.Replies.{statusOf, ranReply};
 ghost use Rattle.mixer.specs.Lookup.{lookupReply, lookupArea};
 
 #[no_mangle]
@@ -30,7 +30,7 @@ pub extern "C" fn mixer_check_plan(
 ) -> Status
     ensures { λ r. ⌜ r ≡ statusOf (checkPlan plan (areas (now (indices .entry)) (now (coefficients .entry)) (now («node_floats» .entry)) (now («node_words» .entry)) (now (steps .entry)) (now (buffers .entry)))) ⌝ }
 {
-    status_of(plan::check_plan(
+    status_of(plan_check::check_plan(
         plan,
         indices,
         coefficients,
@@ -77,7 +77,7 @@ pub extern "C" fn mixer_process(
     ensures buffers { λ _. ⌜ now (buffers .exit) ≡ processed (given plan (now (indices .entry)) (now (coefficients .entry)) (now (steps .entry)) (now (directory .entry)) (now (samples .entry))) (state (now («node_floats» .entry)) (now («node_words» .entry)) (now (buffers .entry)) (now (output .entry)) 0) .buffers ⌝ }
     ensures output { λ _. ⌜ now (output .exit) ≡ processed (given plan (now (indices .entry)) (now (coefficients .entry)) (now (steps .entry)) (now (directory .entry)) (now (samples .entry))) (state (now («node_floats» .entry)) (now («node_words» .entry)) (now (buffers .entry)) (now (output .entry)) 0) .output ⌝ }
 {
-    ran_reply(run::process(
+    ran_reply(run_process::process(
         plan,
         indices,
         coefficients,
@@ -107,7 +107,7 @@ pub extern "C" fn mixer_lookup(
     if part.len() < found.len() {
         return not_counted(Refusal::of(Refusal::SHORT_AREA));
     }
-    builder::put_floats(found, 0, part);
+    builder_calls::put_floats(found, 0, part);
     counted(found.len())
 }
 

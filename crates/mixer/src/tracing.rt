@@ -1,13 +1,13 @@
 // The calls of crate `trace`.
-use crate::CleanReply;
-use crate::CountReply;
-use crate::replies::clean_reply;
-use crate::replies::sources_reply;
+use mixer_replies::CleanReply;
+use mixer_replies::CountReply;
+use mixer_replies::clean_reply;
+use mixer_replies::sources_reply;
 use plan::Plan;
 ghost use mathlib.Core.Path.{_≡_};
 ghost use lib.ListN.{length};
 ghost use Rattle.trace.specs.Calls.{sourcesAnswer, sourcesArea, allAnswer, allCounts, allLists, cleanAnswer};
-ghost use Rattle.mixer.specs.Replies.{sourcesReply, cleanReply};
+ghost use Rattle.mixer_replies.specs.Replies.{sourcesReply, cleanReply};
 
 #[no_mangle]
 pub extern "C" fn mixer_output_sources(
@@ -21,7 +21,7 @@ pub extern "C" fn mixer_output_sources(
     ensures reply { λ r. ⌜ r ≡ sourcesReply (sourcesAnswer plan slot (now (indices .entry)) (now («node_words» .entry)) (now (steps .entry)) (length (now (list .entry)))) ⌝ }
     ensures list { λ _. ⌜ now (list .exit) ≡ sourcesArea plan slot (now (indices .entry)) (now («node_words» .entry)) (now (steps .entry)) (now (list .entry)) ⌝ }
 {
-    sources_reply(trace::output_sources(plan, slot, indices, node_words, steps, list))
+    sources_reply(trace_calls::output_sources(plan, slot, indices, node_words, steps, list))
 }
 
 #[no_mangle]
@@ -37,7 +37,7 @@ pub extern "C" fn mixer_all_sources(
     ensures counts { λ _. ⌜ now (counts .exit) ≡ allCounts plan (now (indices .entry)) (now («node_words» .entry)) (now (steps .entry)) (now (counts .entry)) (length (now (lists .entry))) ⌝ }
     ensures lists { λ _. ⌜ now (lists .exit) ≡ allLists plan (now (indices .entry)) (now («node_words» .entry)) (now (steps .entry)) (length (now (counts .entry))) (now (lists .entry)) ⌝ }
 {
-    sources_reply(trace::all_sources(plan, indices, node_words, steps, counts, lists))
+    sources_reply(trace_calls::all_sources(plan, indices, node_words, steps, counts, lists))
 }
 
 #[no_mangle]
@@ -49,5 +49,5 @@ pub extern "C" fn mixer_clean_answer(
 ) -> CleanReply
     ensures { λ r. ⌜ r ≡ cleanReply (cleanAnswer plan (now (indices .entry)) (now («node_words» .entry)) (now (steps .entry))) ⌝ }
 {
-    clean_reply(trace::clean_answer(plan, indices, node_words, steps))
+    clean_reply(trace_calls::clean_answer(plan, indices, node_words, steps))
 }

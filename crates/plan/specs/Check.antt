@@ -4,11 +4,11 @@ use mathlib.Core.Bool.{Bool, true, false, _||_}
 use mathlib.Core.List.{List, [], _∷_}
 use lib.ListN.{take}
 use lib.Dec.{ltb, leb, eqb}
+use Rattle.lists.specs.Parts.{part}
 use Rattle.refusal.specs.Numbers.{blockLength, shortArea, unreadableStep, outsideTable, overLimit, sharedBuffer, tooManyValues, idTaken}
 use Rattle.refusal.specs.Tests.{Test, test, testAt, first}
 use Rattle.refusal.specs.declared.Answer.{Answer}
 use Rattle.refusal.specs.declared.Answer.the-variants.{Accepted}
-use Rattle.lists.specs.Parts.{part}
 use Rattle.node.specs.Sizes.{maxValues}
 use Rattle.node.specs.Areas.{idAt}
 use Rattle.plan.specs.declared.Plan.{Plan}

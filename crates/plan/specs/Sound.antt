@@ -111,3 +111,9 @@ pub record Pass (p : Plan) (indices w : List ℕ) (at : ℕ) (Rest : ℕ → Typ
 abbrev pub Passes : Plan → List ℕ → List ℕ → ℕ → ℕ → Type 0
 Passes p indices w zero at = Unit {0}
 Passes p indices w (suc n) at = Pass p indices w at (λ next. Passes p indices w n next)
+
+-- what the tests said of an accepted plan and its steps, as a walk of them asks for it
+pub record Tested (p : Plan) (indices w : List ℕ) : Type 0 where
+  pub list : IndexList p indices
+  pub steps : p .steps ≤ unitLimits .steps
+  pub pass : Passes p indices w (p .steps) 0

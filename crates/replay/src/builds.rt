@@ -6,12 +6,12 @@ use crate::data::area;
 use crate::data::floats_in;
 use crate::data::word;
 use crate::data::words_in;
-use builder::Grown;
 use builder::NumberAnswer;
-use builder::Numbered;
-use builder::PlanBuilder;
 use builder::SpanAnswer;
-use builder::Spanned;
+use builder_calls::Grown;
+use builder_calls::Numbered;
+use builder_calls::PlanBuilder;
+use builder_calls::Spanned;
 use plan::Plan;
 use plan::Span;
 

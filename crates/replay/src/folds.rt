@@ -6,10 +6,10 @@ use crate::data::area;
 use crate::data::floats_in;
 use crate::data::word;
 use comparison::floats;
-use fold::FoldGains;
 use format::Format;
-use format::Gains;
-use format::Stereo;
+use format_balance::Gains;
+use format_balance::Stereo;
+use format_fold::FoldGains;
 
 // The f64 of words i and i + 1.
 fn double(record: &[u32], i: u8) -> f64 {
@@ -53,12 +53,12 @@ fn gains(record: &[u32], answer: Gains) -> bool {
 
 // Numbers: the balance, the two gains.
 pub fn balance_gains(record: &[u32]) -> bool {
-    gains(record, format::balance_gains(double(record, 5)))
+    gains(record, format_balance::balance_gains(double(record, 5)))
 }
 
 fn balance_in(words: &[u32], record: &[u32], out: &mut [f32]) -> bool {
     areas::load_floats(words, record, 0, out);
-    let answer = format::balance_of(word(record, 9), double(record, 10), out);
+    let answer = format_balance::balance_of(word(record, 9), double(record, 10), out);
     compare::answer(record, answer) && compare::samples_left(b"gains", words, record, 1, out)
 }
 
@@ -78,7 +78,7 @@ fn matrix(record: &[u32], ll: f64, lr: f64, rl: f64, rr: f64) -> bool {
 
 // Numbers: the width, the balance, the four gains.
 pub fn stereo_matrix(record: &[u32]) -> bool {
-    match format::stereo_matrix(double(record, 5), double(record, 7)) {
+    match format_balance::stereo_matrix(double(record, 5), double(record, 7)) {
         Stereo::Matrix(ll, lr, rl, rr) => compare::accepted(record)
             && matrix(record, ll, lr, rl, rr),
         Stereo::Refused(r) => compare::refused(record, r),
@@ -98,7 +98,7 @@ fn gains_of(record: &[u32]) -> FoldGains {
 
 fn width_in(words: &[u32], record: &[u32], out: &mut [f32]) -> bool {
     areas::load_floats(words, record, 0, out);
-    let answer = fold::width_matrix(
+    let answer = format_fold::width_matrix(
         word(record, 9),
         word(record, 10),
         gains_of(record),

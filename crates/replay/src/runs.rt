@@ -80,7 +80,7 @@ fn checked(
     let plan = plan_in(words, record, 0);
     let indices = area(words, record, 1);
     let steps = area(words, record, 5);
-    let answer = plan::check_plan(
+    let answer = plan_check::check_plan(
         plan,
         indices,
         coefficients,
@@ -127,7 +127,7 @@ fn processed(
     let indices = area(words, record, 1);
     let steps = area(words, record, 5);
     let directory = area(words, record, 7);
-    let answer = run::process(
+    let answer = run_process::process(
         plan,
         indices,
         coefficients,

@@ -23,7 +23,14 @@ fn sources(words: &[u32], record: &[u32], list: &mut [u16]) -> bool {
     let indices = area(words, record, 1);
     let node_words = area(words, record, 2);
     let steps = area(words, record, 3);
-    let answer = trace::output_sources(plan, word(record, 17), indices, node_words, steps, list);
+    let answer = trace_calls::output_sources(
+        plan,
+        word(record, 17),
+        indices,
+        node_words,
+        steps,
+        list,
+    );
     listed(record, 18, answer) && compare::shorts_left(b"source list", words, record, 5, list)
 }
 
@@ -44,7 +51,7 @@ fn all(words: &[u32], record: &[u32], counts: &mut [u32], lists: &mut [u16]) -> 
     let indices = area(words, record, 1);
     let node_words = area(words, record, 2);
     let steps = area(words, record, 3);
-    let answer = trace::all_sources(plan, indices, node_words, steps, counts, lists);
+    let answer = trace_calls::all_sources(plan, indices, node_words, steps, counts, lists);
     listed(record, 21, answer)
         && compare::words_left(b"counts", words, record, 6, counts)
         && compare::shorts_left(b"source lists", words, record, 7, lists)
@@ -80,7 +87,7 @@ pub fn clean_answer(words: &[u32], record: &[u32]) -> bool {
     let plan = plan_in(words, record, 0);
     clean(
         record,
-        trace::clean_answer(
+        trace_calls::clean_answer(
             plan,
             area(words, record, 1),
             area(words, record, 2),

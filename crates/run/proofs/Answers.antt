@@ -3,9 +3,9 @@ use mathlib.Core.Path.{_≡_, sym, ap, _∙_}
 use Rattle.refusal.specs.declared.Refusal.{Refusal}
 use Rattle.refusal.specs.declared.Answer.the-variants.{Accepted, Refused}
 use Rattle.refusal.proofs.Laws.{outcome-accepted, outcome-refused}
+use Rattle.input.specs.Input.{lookup}
 use Rattle.run.specs.declared.Ran.{Ran}
 use Rattle.run.specs.declared.Ran.the-variants as ran
-use Rattle.input.specs.Input.{lookup}
 use Rattle.run.specs.Run.{Given, State, runSteps, stepsOfRun, admission, processed, processAnswer}
 
 module _ (g : Given) (s : State) where

@@ -26,10 +26,10 @@ use Rattle.plan.proofs.Accepted.{accepted-room}
 use Rattle.plan.specs.Resolved.{Resolved, patch, gain, matrix, clear, send, output}
 use Rattle.input.specs.Input.{lookup}
 use Rattle.setting.specs.Setting.{nodeOf, settingWords}
+use Rattle.setting.proofs.Setting.{node-named, node-only, settable, words-accepted, words-refused}
 use Rattle.run.specs.Run.{Given, State, stepped, runSteps, finished, admission, processed}
 use Rattle.run.specs.Calls.{Fixed, Held, Call, set, run, givenTo, start, answer, after, afterAll, runs, NotSet, stepsOfPlan, uses}
 use Rattle.run.proofs.Answers.{accepted-runs, refused-keeps}
-use Rattle.setting.proofs.Setting.{node-named, node-only, settable, words-accepted, words-refused}
 use Rattle.run.proofs.Admitted.{areas-of, admitted}
 
 -- node n of the words: its id is i, and r samples are left

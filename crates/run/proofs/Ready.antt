@@ -31,10 +31,10 @@ use Rattle.plan.proofs.Accepted.{accepted-room}
 use Rattle.plan.proofs.Front.{check-front}
 use Rattle.input.specs.Input.{lookup, directoryBad}
 use Rattle.setting.specs.Setting.{nodeOf}
+use Rattle.setting.proofs.Setting.{Settable, settable, node-named, floats-accepted, floats-refused, words-accepted, words-refused, node-good}
 use Rattle.run.specs.Run.{Given, State, outputChannels, admission, processed, runSteps}
 use Rattle.run.specs.Calls.{Fixed, Held, held, Call, set, run, givenTo, start, answer, after, afterAll, stepsOfPlan}
 use Rattle.run.proofs.Answers.{accepted-runs, refused-keeps}
-use Rattle.setting.proofs.Setting.{Settable, settable, node-named, floats-accepted, floats-refused, words-accepted, words-refused, node-good}
 use Rattle.run.proofs.States.{Good, good-stored, good-run, run-lengths, NodesBelow}
 
 -- lists of tests that answer the same with nothing after them answer the same whatever comes after

@@ -1,10 +1,9 @@
 -- A run of a plan over one block: the state that its steps change, each step, the admission, and the whole call. Definitions only.
 use Prim.Native.Nat.{ℕ, _+_, _*_}
-use mathlib.Core.Bool.{cond}
 use mathlib.Core.List.{List, [], _∷_, _++_}
-use lib.Dec.{ltb, leb}
-use lib.ListN.{length, getD}
-use lib.Ieee.{Float, nan}
+use lib.Dec.{ltb}
+use lib.ListN.{length}
+use lib.Ieee.{Float}
 use Rattle.refusal.specs.Numbers.{badDirectory, shortOutput, badNode}
 use Rattle.refusal.specs.Tests.{Test, test, first, outcome}
 use Rattle.refusal.specs.declared.Answer.{Answer}
@@ -12,12 +11,12 @@ use Rattle.refusal.specs.declared.Answer.the-variants.{Accepted}
 use Rattle.node.specs.declared.Gain.{Gain}
 use Rattle.node.specs.Nodes.{gainOf, finishBlock}
 use Rattle.node.specs.Areas.{nodeAt, storedFloats, storedWords, someBad}
+use Rattle.mix.specs.Samples.{put}
+use Rattle.mix.specs.Mix.{gained, rows, sends, cleared, appended, patched}
 use Rattle.plan.specs.declared.Plan.{Plan}
 use Rattle.plan.specs.Areas.{areas, shortAreas}
 use Rattle.plan.specs.Check.{planTests}
 use Rattle.plan.specs.Resolved.{Resolved, patch, gain, matrix, clear, send, output, resolvedSteps}
-use Rattle.mix.specs.Samples.{silence, put}
-use Rattle.mix.specs.Mix.{gained, rows, sends, cleared, appended}
 use Rattle.input.specs.Input.{lookup, directoryBad}
 use Rattle.run.specs.declared.Ran.{Ran}
 use Rattle.run.specs.declared.Ran.the-variants as ran
@@ -54,10 +53,6 @@ gains s n i = gainOf (nodeAt (s .floats) (s .words) n) i
 
 abbrev pub withBuffers : State → List Float → State
 withBuffers s buffers = state (s .floats) (s .words) buffers (s .output) (s .wrote)
-
--- what Patch copies of a part at sample k: "A part shorter than the block counts as absent", and is +0
-unfoldable pub patched : ℕ → List Float → ℕ → Float
-patched block part k = cond (leb block (length part)) (getD part k nan) silence
 
 -- "End of a step's block" of node n
 abbrev pub finished : ℕ → ℕ → State → State

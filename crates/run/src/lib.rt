@@ -1,66 +1,9 @@
-// A run of a plan over one block. Ports `Plan::process` of src/engine/plan.rs. The call is total, and a refused one changes nothing.
-mod admission;
-mod nodes;
-mod steps;
-
-use plan::Plan;
-use refusal::Answer;
+// A run of a plan over one block: what it answers and leaves, and what lists of settings and runs leave, with the laws of both. There is no code
+// here: crates `run_kinds` and `run_process` have it.
 use refusal::Refusal;
-use steps::run_block;
-ghost use mathlib.Core.Path.{_≡_};
-ghost use Rattle.run.specs.Run.{given, state, processed, processAnswer};
 
 // The answer of `process`: how many samples of the output area were written.
 pub enum Ran {
     Wrote(usize),
     Refused(Refusal),
-}
-
-// One block of a plan: its steps, in order, over the lent areas.
-pub fn process(
-    plan: Plan,
-    indices: &[u32],
-    coefficients: &[f32],
-    node_floats: &mut [f32],
-    node_words: &mut [u32],
-    steps: &[u32],
-    buffers: &mut [f32],
-    directory: &[u32],
-    samples: &[f32],
-    output: &mut [f32],
-) -> Ran
-    ensures answer { λ r. ⌜ r ≡ processAnswer (given plan (now (indices .entry)) (now (coefficients .entry)) (now (steps .entry)) (now (directory .entry)) (now (samples .entry))) (state (now («node_floats» .entry)) (now («node_words» .entry)) (now (buffers .entry)) (now (output .entry)) 0) ⌝ }
-    ensures floats { λ _. ⌜ now («node_floats» .exit) ≡ processed (given plan (now (indices .entry)) (now (coefficients .entry)) (now (steps .entry)) (now (directory .entry)) (now (samples .entry))) (state (now («node_floats» .entry)) (now («node_words» .entry)) (now (buffers .entry)) (now (output .entry)) 0) .floats ⌝ }
-    ensures words { λ _. ⌜ now («node_words» .exit) ≡ processed (given plan (now (indices .entry)) (now (coefficients .entry)) (now (steps .entry)) (now (directory .entry)) (now (samples .entry))) (state (now («node_floats» .entry)) (now («node_words» .entry)) (now (buffers .entry)) (now (output .entry)) 0) .words ⌝ }
-    ensures buffers { λ _. ⌜ now (buffers .exit) ≡ processed (given plan (now (indices .entry)) (now (coefficients .entry)) (now (steps .entry)) (now (directory .entry)) (now (samples .entry))) (state (now («node_floats» .entry)) (now («node_words» .entry)) (now (buffers .entry)) (now (output .entry)) 0) .buffers ⌝ }
-    ensures output { λ _. ⌜ now (output .exit) ≡ processed (given plan (now (indices .entry)) (now (coefficients .entry)) (now (steps .entry)) (now (directory .entry)) (now (samples .entry))) (state (now («node_floats» .entry)) (now («node_words» .entry)) (now (buffers .entry)) (now (output .entry)) 0) .output ⌝ }
-{
-    let answer = admission::admission(
-        plan,
-        indices,
-        coefficients,
-        &node_floats[..],
-        &node_words[..],
-        steps,
-        &buffers[..],
-        directory,
-        samples,
-        &output[..],
-    );
-    if let Answer::Refused(r) = answer {
-        return Ran::Refused(r);
-    }
-    let count = plan.words;
-    Ran::Wrote(run_block(
-        plan,
-        indices,
-        coefficients,
-        node_floats,
-        node_words,
-        &steps[..count],
-        buffers,
-        directory,
-        samples,
-        output,
-    ))
 }

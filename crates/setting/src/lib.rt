@@ -16,19 +16,21 @@ fn setting_answer(count: usize, id: u32, ramp: u32, floats: usize, words: &[u32]
     if count > Plan::MAX_NODES {
         return Answer::Refused(Refusal::of(Refusal::OVER_LIMIT));
     }
-    if plan::shorter(floats, count, Node::FLOATS) | plan::shorter(words.len(), count, Node::WORDS) {
+    if plan_areas::shorter(floats, count, Node::FLOATS)
+        | plan_areas::shorter(words.len(), count, Node::WORDS)
+    {
         return Answer::Refused(Refusal::of(Refusal::SHORT_AREA));
     }
     if node::any_bad(words, count) {
         return Answer::Refused(Refusal::of(Refusal::BAD_NODE));
     }
-    if plan::id_twice(words, count) {
+    if plan_areas::id_twice(words, count) {
         return Answer::Refused(Refusal::of(Refusal::ID_TAKEN));
     }
     if ramp > Node::MAX_RAMP {
         return Answer::Refused(Refusal::of(Refusal::LONG_RAMP));
     }
-    if !plan::id_among(words, count, id) {
+    if !plan_areas::id_among(words, count, id) {
         return Answer::Refused(Refusal::of(Refusal::UNKNOWN_ID));
     }
     Answer::Accepted

@@ -39,7 +39,7 @@ pub fn ran(
     let mut samples = [0.0f32; inputs::SAMPLES];
     inputs::directory(&mut directory);
     inputs::play(from, &mut samples);
-    run::process(
+    run_process::process(
         plan,
         indices,
         coefficients,

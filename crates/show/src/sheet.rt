@@ -17,7 +17,7 @@ fn row(
     steps: &[u32],
 ) -> Answer {
     let mut list = [0u16; 256];
-    match trace::output_sources(plan, slot, indices, words, steps, &mut list) {
+    match trace_calls::output_sources(plan, slot, indices, words, steps, &mut list) {
         Sources::Refused(r) => Answer::Refused(r),
         Sources::Listed(n) => {
             text::right(slot as u64, 6);
@@ -49,7 +49,7 @@ pub fn rows(digests: &[u32], plan: Plan, indices: &[u32], words: &[u32], steps: 
 
 // Whether the plan is clean, which ends the line of its counts.
 pub fn clean(plan: Plan, indices: &[u32], words: &[u32], steps: &[u32]) -> Answer {
-    match trace::clean_answer(plan, indices, words, steps) {
+    match trace_calls::clean_answer(plan, indices, words, steps) {
         CleanAnswer::Refused(r) => Answer::Refused(r),
         CleanAnswer::Clean => {
             text::put(b"; clean: yes\n");

@@ -1,7 +1,7 @@
 // Steps with buffers of their own, which are the draft's span after them.
 use crate::layout;
 use builder::NumberAnswer;
-use builder::PlanBuilder;
+use builder_calls::PlanBuilder;
 use desk::draft;
 use desk::draft::Draft;
 use format::Format;

@@ -30,11 +30,6 @@ use Rattle.plan.specs.Check.{outside, stepTests, stepsTests, planTests, checked
 use Rattle.plan.proofs.Plans.{ListRoom, lists-none}
 use Rattle.plan.proofs.Exact.{accepted-sound}
 use Rattle.plan.proofs.Front.{check-front}
-use Rattle.trace.specs.Sources.{sourceList, slotCount}
-use Rattle.trace.specs.Clean.{clean}
-use Rattle.trace.specs.Calls.{tracedSteps, traceAnswer, sourcesAnswer, sourcesArea, cleanAnswer}
-use Rattle.trace.specs.declared.Sources.the-variants as sources
-use Rattle.trace.specs.declared.CleanAnswer.the-variants as answers
 use Rattle.builder.specs.Calls.{newAnswer, newTests}
 use Rattle.builder.specs.Built.{Call, buffers, coefficients, node, step, State, answer, after, built}
 use Rattle.builder.proofs.Refusals.{refused-nothing}
@@ -43,6 +38,11 @@ use Rattle.builder.proofs.Outcomes.{plan-accepted}
 use Rattle.builder.proofs.Fits.{buffers-fit, node-fits, step-fits}
 use Rattle.builder.specs.Growth.{buffersGrowth, coefficientsGrowth, nodeGrowth, stepGrowth}
 use Rattle.builder.specs.Calls.{recordLength}
+use Rattle.trace.specs.Sources.{sourceList, slotCount}
+use Rattle.trace.specs.Clean.{clean}
+use Rattle.trace.specs.Calls.{tracedSteps, traceAnswer, sourcesAnswer, sourcesArea, cleanAnswer}
+use Rattle.trace.specs.declared.Sources.the-variants as sources
+use Rattle.trace.specs.declared.CleanAnswer.the-variants as answers
 use Rattle.theorem.specs.Builds.{Build, begun, grown, acceptedCalls}
 use Rattle.theorem.proofs.Nodes.{nobody}
 use Rattle.theorem.proofs.Drafts.{block-kept, holds, holds-too, same-nodes, same-traced}

@@ -14,17 +14,17 @@ use Rattle.node.specs.declared.Node.{Node}
 use Rattle.node.specs.declared.Gain.{Gain}
 use Rattle.node.specs.Nodes.{gainOf}
 use Rattle.node.specs.Areas.{nodeAt}
+use Rattle.mix.specs.Samples.{sample, put}
+use Rattle.mix.specs.Mix.{gained, rows, sends, cleared, patched}
+use Rattle.mix.proofs.Laws.{not-used, gained-other, rows-other, sends-other, cleared-other, appended-at, appended-before}
+use Rattle.mix.proofs.Put.{put-other}
 use Rattle.plan.specs.Check.{has}
 use Rattle.plan.proofs.Bools.{and-both}
 use Rattle.plan.specs.Resolved.{Resolved, patch, gain, matrix, clear, send, output}
-use Rattle.mix.specs.Samples.{sample, put}
-use Rattle.mix.specs.Mix.{gained, rows, sends, cleared}
-use Rattle.mix.proofs.Laws.{not-used, gained-other, rows-other, sends-other, cleared-other, appended-at, appended-before}
-use Rattle.mix.proofs.Put.{put-other}
-use Rattle.run.specs.Run.{State, stepped, runSteps, outputChannels, patched}
-use Rattle.run.proofs.States.{step-lengths}
 use Rattle.trace.specs.Sources.{union, spread, joins, behind}
 use Rattle.trace.specs.Clean.{written, all, cleanStep, cleanFrom}
+use Rattle.run.specs.Run.{State, stepped, runSteps, outputChannels}
+use Rattle.run.proofs.States.{step-lengths}
 use Rattle.theorem.proofs.Bools.{or-left, or-right, and-intro}
 use Rattle.theorem.proofs.Agree.{All, all-at, Agree, Hold, Paired, gained-paired, rows-paired, sends-paired, cleared-paired, patch-paired}
 use Rattle.theorem.proofs.Steps.{InPlan, width, channels-more, wrote-step, none-of, SameNodes, even, nodes-step, hold-step}

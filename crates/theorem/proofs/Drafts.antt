@@ -5,9 +5,9 @@ use mathlib.Core.List.{List, [], _∷_, _++_, map}
 use Prim.Native.Nat.{ℕ, zero, suc}
 use lib.ListN.{length, take}
 use lib.Ieee.{Float}
+use Rattle.lists.proofs.Stores.{part-take}
 use Rattle.refusal.specs.declared.Answer.{Answer}
 use Rattle.refusal.specs.declared.Answer.the-variants.{Accepted, Refused}
-use Rattle.lists.proofs.Stores.{part-take}
 use Rattle.node.specs.declared.Node.{Node}
 use Rattle.node.specs.Nodes.{newNode}
 use Rattle.node.specs.Areas.{nodes}
@@ -19,11 +19,11 @@ use Rattle.plan.specs.Limits.{Limits, unitLimits}
 use Rattle.plan.specs.Resolved.{resolved, resolvedSteps}
 use Rattle.plan.specs.Sound.{Within, Inside, Each, stepsOf}
 use Rattle.plan.proofs.Spans.{named-front}
-use Rattle.trace.specs.Calls.{tracedSteps}
 use Rattle.builder.specs.Built.{Call, buffers, coefficients, node, step, State, answer, after, built, Draft, noDraft, given, drafted, Holds}
 use Rattle.builder.proofs.Refusals.{refused-nothing}
 use Rattle.builder.proofs.Kept.{accepted-kept}
 use Rattle.builder.proofs.ReadBack.{read-back, held-decoded}
+use Rattle.trace.specs.Calls.{tracedSteps}
 use Rattle.theorem.specs.Builds.{Build, begun, grown, acceptedCalls, NoRampBuilt}
 use Rattle.theorem.proofs.Nodes.{AtRest}
 

@@ -6,8 +6,8 @@ use mathlib.Core.Logic.{inr}
 use mathlib.Core.List.{List, [], _∷_}
 use lib.ListN.{length}
 use lib.Ieee.{Float}
-use Rattle.plan.specs.Resolved.{patch, clear}
 use Rattle.mix.specs.Samples.{silence}
+use Rattle.plan.specs.Resolved.{patch, clear}
 use Rattle.builder.specs.Built.{buffers, node}
 use Rattle.theorem.specs.Builds.{Build, Finished, acceptedCalls}
 use Rattle.theorem.specs.Journal.{total}

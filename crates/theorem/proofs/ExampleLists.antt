@@ -9,8 +9,8 @@ use mathlib.Core.Logic.{inl, inr}
 use mathlib.Core.List.{List, [], _∷_, _++_}
 use lib.ListN.{replicate}
 use lib.Ieee.{nan}
-use Rattle.plan.specs.Resolved.{Resolved, patch, gain, matrix, clear, send, output}
 use Rattle.mix.specs.Samples.{silence}
+use Rattle.plan.specs.Resolved.{Resolved, patch, gain, matrix, clear, send, output}
 use Rattle.builder.specs.Built as builder
 use Rattle.builder.specs.Built.{buffers, coefficients, node, step}
 use Rattle.run.specs.Calls.{set, run}

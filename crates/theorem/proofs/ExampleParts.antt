@@ -15,23 +15,23 @@ use lib.Ieee.{Float, nan, fin, add, sub, mul, div, eq, ofInt, ofBits}
 use Rattle.node.specs.Sizes.{nodeFloats, nodeWords}
 use Rattle.node.specs.Nodes.{newNode, setNode, gainOf, factor, finishBlock}
 use Rattle.node.specs.Areas.{nodeAt, floatsOf, wordsOf, badNode, someBad}
+use Rattle.sets.specs.Sets.{sift}
+use Rattle.mix.specs.Samples.{sampled}
+use Rattle.mix.specs.Mix.{added, weighted, sent, columns, weighs}
 use Rattle.plan.specs.Words.{patchMap, gainMap, matrixMap, clearMap, sendMap, outputMap, stepOf, decoded, decodedFrom}
 use Rattle.plan.specs.Areas.{Areas, areas}
 use Rattle.plan.specs.Check.{someFrom, idAmong, idTwice, outside, has, meet, shares, stepsTests, checked}
 use Rattle.plan.proofs.Bools.{or-none, or-some}
 use Rattle.plan.proofs.Scans.{Counted, counted-at}
-use Rattle.mix.specs.Samples.{sampled}
-use Rattle.mix.specs.Mix.{added, weighted, sent, columns, weighs}
 use Rattle.builder.specs.Calls.{newAnswer, buffersIndices, coefficientsArea, nodeFloatsArea, nodeWordsArea, stepArea, finishArea}
 use Rattle.builder.specs.Built.{Call, step}
 use Rattle.input.specs.Input.{entryWord, entryFor, entries}
-use Rattle.run.specs.Run.{processed}
-use Rattle.setting.specs.Setting.{nodeOf, settingFloats, settingWords}
-use Rattle.run.specs.Calls as run
 use Rattle.input.proofs.Input.{lookup-absent}
-use Rattle.sets.specs.Sets.{sift}
 use Rattle.trace.specs.Sources.{sourceList}
 use Rattle.trace.specs.Calls.{cleanAnswer}
+use Rattle.setting.specs.Setting.{nodeOf, settingFloats, settingWords}
+use Rattle.run.specs.Run.{processed}
+use Rattle.run.specs.Calls as run
 use Rattle.theorem.specs.Builds.{Build, Finished, acceptedCalls}
 use Rattle.theorem.specs.Journal.{Entry, setting, ran, Absent, Whole, carried}
 use Rattle.theorem.specs.Statement.{Lists, a, b, firstJournal, secondJournal, listBehind, CarriesEqual, ListedCarryEqual}

@@ -5,13 +5,13 @@ use native.Mathlib.Omega.{arith}
 use mathlib.Core.Path.{_≡_, refl, sym, ap, _∙_}
 use mathlib.Core.Logic.{inr}
 use mathlib.Core.List.{List, [], _∷_}
-use Rattle.plan.specs.Resolved.{patch, gain}
 use Rattle.mix.specs.Samples.{silence}
+use Rattle.plan.specs.Resolved.{patch, gain}
 use Rattle.builder.specs.Built as builder
 use Rattle.builder.specs.Built.{buffers, node}
-use Rattle.run.specs.Calls.{Call, set}
 use Rattle.trace.specs.Calls.{cleanAnswer}
 use Rattle.trace.specs.declared.CleanAnswer.the-variants.{Clean}
+use Rattle.run.specs.Calls.{Call, set}
 use Rattle.theorem.specs.Builds.{Build, Finished, acceptedCalls, fixed, held, NoRampBuilt}
 use Rattle.theorem.specs.Journal.{total, settingsFrom, NoRampSet}
 use Rattle.theorem.specs.Statement.{Lists, a, b, firstJournal, secondJournal, Given, ListedCarryEqual, ChannelOf, SameOutput}

@@ -13,9 +13,9 @@ use lib.Ieee.{Float, nan}
 use borrow.Author.Tests.{ltb-true, ltb-false, le-leb, lt-leb}
 use Rattle.node.specs.declared.Node.{Node}
 use Rattle.mix.specs.Samples.{silence}
+use Rattle.mix.specs.Mix.{patched}
 use Rattle.plan.specs.Resolved.{Resolved}
 use Rattle.input.specs.Input.{lookup}
-use Rattle.run.specs.Run.{patched}
 use Rattle.theorem.specs.Journal.{Entry, setting, ran, total, Absent, Whole, carried}
 use Rattle.theorem.proofs.Nodes.{nodesAfter, nodesSet}
 

@@ -18,8 +18,8 @@ use Rattle.node.proofs.Left.{finish-rest, left-set}
 use Rattle.node.proofs.Areas.{length-nodes, getD-nodes, nodes-stored}
 use Rattle.plan.specs.Resolved.{Resolved, patch, gain, matrix, clear, send, output}
 use Rattle.setting.specs.Setting.{nodeOf, settingAnswer, settingFloats, settingWords}
-use Rattle.run.specs.Run.{State, finished, stepped, runSteps}
 use Rattle.setting.proofs.Setting.{node-named, settable, floats-accepted, words-accepted}
+use Rattle.run.specs.Run.{State, finished, stepped, runSteps}
 use Rattle.run.proofs.States.{step-lengths}
 use Rattle.theorem.proofs.Steps.{InPlan}
 use Rattle.theorem.proofs.Block.{Every}

@@ -13,12 +13,13 @@ use lib.Ieee.{Float, nan}
 use Rattle.node.specs.declared.Node.{Node}
 use Rattle.node.specs.Areas.{nodeAt, nodes}
 use Rattle.node.proofs.Areas.{getD-nodes}
-use Rattle.plan.specs.Resolved.{Resolved, output}
 use Rattle.mix.specs.Samples.{sample}
-use Rattle.run.specs.Run.{State, runSteps, outputChannels, patched}
-use Rattle.run.specs.Calls.{Fixed, Held, Call, stepsOfPlan}
+use Rattle.mix.specs.Mix.{patched}
+use Rattle.plan.specs.Resolved.{Resolved, output}
 use Rattle.trace.specs.Sources.{noSources, behind}
 use Rattle.trace.specs.Clean.{noneWritten, cleanFrom}
+use Rattle.run.specs.Run.{State, runSteps, outputChannels}
+use Rattle.run.specs.Calls.{Fixed, Held, Call, stepsOfPlan}
 use Rattle.theorem.specs.Journal.{Entry, journal, total, settingsFrom, written, Absent, Whole, carried, NoRampSet}
 use Rattle.theorem.proofs.Steps.{InPlan, channels-more}
 use Rattle.theorem.proofs.Block.{Every, Within, Going, same-sample}

@@ -11,13 +11,14 @@ use lib.ListN.{length, getD, drop, length-append, List·getD-append}
 use lib.Seq.{getD-take, getD-drop}
 use lib.Ieee.{Float, nan}
 use borrow.Author.Tests.{ltb-true, ltb-false}
+use Rattle.lists.specs.Parts.{part}
+use Rattle.lists.proofs.Stores.{length-part}
 use Rattle.refusal.specs.Tests.{outcome}
 use Rattle.refusal.specs.declared.Answer.{Answer}
 use Rattle.refusal.specs.declared.Answer.the-variants.{Accepted, Refused}
-use Rattle.lists.specs.Parts.{part}
-use Rattle.lists.proofs.Stores.{length-part}
 use Rattle.node.specs.declared.Node.{Node}
 use Rattle.node.specs.Areas.{Room, nodes}
+use Rattle.mix.specs.Samples.{sample}
 use Rattle.plan.specs.declared.Plan.{Plan}
 use Rattle.plan.specs.declared.Span.{Span}
 use Rattle.plan.specs.declared.Step.{Step}
@@ -28,7 +29,6 @@ use Rattle.plan.specs.Resolved.{Resolved, resolved}
 use Rattle.plan.specs.Sound.{Within, Inside, IndexList, Each, stepsOf}
 use Rattle.plan.proofs.Accepted.{span-length, span-below}
 use Rattle.plan.proofs.Exact.{accepted-sound}
-use Rattle.mix.specs.Samples.{sample}
 use Rattle.input.specs.Input.{lookup}
 use Rattle.run.specs.Run.{Given, State, runSteps, outputChannels, processed}
 use Rattle.run.specs.Calls.{Fixed, Held, Call, set, run, givenTo, start, answer, after, stepsOfPlan}

@@ -18,9 +18,9 @@ use Rattle.node.specs.Areas.{Room, nodeAt, storedFloats, storedWords}
 use Rattle.node.proofs.Kept.{full-load, full-finish}
 use Rattle.node.proofs.Left.{finish-rest, factor-rest}
 use Rattle.node.proofs.Areas.{stored-same, stored-other}
+use Rattle.mix.specs.Mix.{NotIn}
 use Rattle.plan.specs.Check.{has}
 use Rattle.plan.specs.Resolved.{Resolved, patch, gain, matrix, clear, send, output}
-use Rattle.mix.specs.Mix.{NotIn}
 use Rattle.run.specs.Run.{State, stepped, outputChannels}
 use Rattle.run.proofs.States.{step-lengths}
 use Rattle.theorem.proofs.Agree.{All, Hold}

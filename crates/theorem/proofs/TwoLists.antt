@@ -8,9 +8,9 @@ use lib.ListN.{length}
 use Rattle.plan.specs.Limits.{unitLimits}
 use Rattle.plan.specs.Check.{has}
 use Rattle.plan.specs.Resolved.{Resolved, output}
+use Rattle.builder.proofs.Fits.{finish-fits}
 use Rattle.trace.specs.Sources.{noSources, behind}
 use Rattle.trace.specs.Clean.{noneWritten, cleanFrom}
-use Rattle.builder.proofs.Fits.{finish-fits}
 use Rattle.run.specs.Calls.{Fixed, stepsOfPlan}
 use Rattle.theorem.specs.Builds.{fixed, held}
 use Rattle.theorem.specs.Journal.{total, settingsFrom, written, Absent, Whole, carried, NoRampSet}

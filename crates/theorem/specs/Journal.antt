@@ -5,8 +5,8 @@ use mathlib.Core.Path.{_≡_}
 use mathlib.Core.List.{List, [], _∷_, _++_}
 use lib.ListN.{length, take}
 use lib.Ieee.{Float}
-use Rattle.refusal.specs.Tests.{outcome}
 use Rattle.lists.specs.Parts.{part}
+use Rattle.refusal.specs.Tests.{outcome}
 use Rattle.input.specs.Input.{lookup}
 use Rattle.run.specs.Run.{processed}
 use Rattle.run.specs.Calls.{Fixed, Held, Call, set, run, givenTo, start, answer, after}

@@ -6,8 +6,8 @@ use mathlib.Core.Logic.{_⊎_}
 use mathlib.Core.List.{List}
 use lib.ListN.{length, take}
 use lib.Ieee.{Float}
-use Rattle.refusal.specs.declared.Answer.the-variants.{Accepted}
 use Rattle.lists.specs.Parts.{part}
+use Rattle.refusal.specs.declared.Answer.the-variants.{Accepted}
 use Rattle.input.specs.Input.{lookup}
 use Rattle.run.specs.Run.{processed}
 use Rattle.run.specs.Calls.{Fixed, Held, run, givenTo, start, answer}

@@ -11,15 +11,15 @@ use lib.Dec.{ltb, leb}
 use lib.ListN.{length, getD, take}
 use lib.Seq.{sets}
 use borrow.Author.Tests.{ltb-false, leb-false}
+use Rattle.lists.specs.Parts.{part}
+use Rattle.lists.proofs.Stores.{take-stored}
+use Rattle.lists.proofs.Filled.{upto-at, upto-past}
 use Rattle.refusal.specs.Numbers.{shortArea, noSlot}
 use Rattle.refusal.specs.Tests.{Test, test, first, outcome, NoneHolds}
 use Rattle.refusal.specs.declared.Refusal.{Refusal}
 use Rattle.refusal.specs.declared.Answer.{Answer}
 use Rattle.refusal.specs.declared.Answer.the-variants.{Accepted, Refused}
 use Rattle.refusal.proofs.Laws.{first-append, accepted-none, none-accepted, outcome-accepted, refused-keeps}
-use Rattle.lists.specs.Parts.{part}
-use Rattle.lists.proofs.Stores.{take-stored}
-use Rattle.lists.proofs.Filled.{upto-at, upto-past}
 use Rattle.sets.proofs.Sift.{length-sift}
 use Rattle.plan.specs.declared.Plan.{Plan}
 use Rattle.plan.specs.Limits.{inputs}

@@ -1,23 +1,6 @@
-// The trace: the inputs behind each output of a plan. Ports `output_sources` of src/engine/plan.rs; the clean answer is added.
-mod buffer_sets;
-mod clean;
-mod slots;
-mod walk;
-
-use buffer_sets::load;
-use clean::all_clean;
-use plan::Plan;
-use refusal::Answer;
+// The trace: the inputs behind each output of a plan, and whether a plan is clean, as definitions with their laws. There is no code here: crates
+// `trace_sources`, `trace_clean` and `trace_calls` have it.
 use refusal::Refusal;
-use slots::LIST_PLACES;
-use slots::SLOT_WORDS;
-use slots::write_lists;
-use walk::behind;
-ghost use mathlib.Core.Path.{_≡_};
-ghost use lib.ListN.{length};
-ghost use Rattle.plan.specs.Areas.{shortLists};
-ghost use Rattle.plan.specs.Check.{checked};
-ghost use Rattle.trace.specs.Calls.{sourcesAnswer, sourcesArea, allAnswer, allCounts, allLists, cleanAnswer};
 
 // The answer of `output_sources`: how many inputs are behind the slot. That of `all_sources`: how many slots there are.
 pub enum Sources {
@@ -30,83 +13,4 @@ pub enum CleanAnswer {
     Clean,
     NotClean,
     Refused(Refusal),
-}
-
-// The plan check of a call that is lent these three areas.
-fn check(plan: Plan, indices: &[u32], node_words: &[u32], steps: &[u32]) -> Answer
-    ensures { λ r. ⌜ r ≡ checked plan (shortLists plan (now (indices .entry)) (now («node_words» .entry)) (now (steps .entry))) (now (indices .entry)) (now («node_words» .entry)) (now (steps .entry)) ⌝ }
-{
-    let short = plan::short_lists(plan, indices, node_words, steps);
-    plan::check(plan, short, indices, node_words, steps)
-}
-
-// The inputs behind one slot, ascending, at the front of `list`.
-pub fn output_sources(
-    plan: Plan,
-    slot: u32,
-    indices: &[u32],
-    node_words: &[u32],
-    steps: &[u32],
-    list: &mut [u16],
-) -> Sources
-    ensures answer { λ r. ⌜ r ≡ sourcesAnswer plan slot (now (indices .entry)) (now («node_words» .entry)) (now (steps .entry)) (length (now (list .entry))) ⌝ }
-    ensures list { λ _. ⌜ now (list .exit) ≡ sourcesArea plan slot (now (indices .entry)) (now («node_words» .entry)) (now (steps .entry)) (now (list .entry)) ⌝ }
-{
-    if let Answer::Refused(r) = check(plan, indices, node_words, steps) {
-        return Sources::Refused(r);
-    }
-    let words = plan.words;
-    let mut slots = [0u64; SLOT_WORDS];
-    let n = behind(plan, indices, &steps[..words], &mut slots);
-    if n <= slot as usize {
-        return Sources::Refused(Refusal::of(Refusal::NO_SLOT));
-    }
-    let set = load(&slots, slot);
-    let count = set.count();
-    if list.len() < count as usize {
-        return Sources::Refused(Refusal::of(Refusal::SHORT_AREA));
-    }
-    set.list(list);
-    Sources::Listed(count)
-}
-
-// The inputs behind every slot s: how many at place s of `counts`, and which, ascending, from place 256 * s of `lists` on. One walk of the steps, as
-// in the Rust.
-pub fn all_sources(
-    plan: Plan,
-    indices: &[u32],
-    node_words: &[u32],
-    steps: &[u32],
-    counts: &mut [u32],
-    lists: &mut [u16],
-) -> Sources
-    ensures answer { λ r. ⌜ r ≡ allAnswer plan (now (indices .entry)) (now («node_words» .entry)) (now (steps .entry)) (length (now (counts .entry))) (length (now (lists .entry))) ⌝ }
-    ensures counts { λ _. ⌜ now (counts .exit) ≡ allCounts plan (now (indices .entry)) (now («node_words» .entry)) (now (steps .entry)) (now (counts .entry)) (length (now (lists .entry))) ⌝ }
-    ensures lists { λ _. ⌜ now (lists .exit) ≡ allLists plan (now (indices .entry)) (now («node_words» .entry)) (now (steps .entry)) (length (now (counts .entry))) (now (lists .entry)) ⌝ }
-{
-    if let Answer::Refused(refused) = check(plan, indices, node_words, steps) {
-        return Sources::Refused(refused);
-    }
-    let words = plan.words;
-    let mut sets = [0u64; SLOT_WORDS];
-    let n = behind(plan, indices, &steps[..words], &mut sets);
-    if (counts.len() < n) | (lists.len() < n * LIST_PLACES) {
-        return Sources::Refused(Refusal::of(Refusal::SHORT_AREA));
-    }
-    write_lists(&sets, n, counts, lists);
-    Sources::Listed(n as u32)
-}
-
-// Whether a plan is clean, as document 01 has it.
-pub fn clean_answer(plan: Plan, indices: &[u32], node_words: &[u32], steps: &[u32]) -> CleanAnswer
-    ensures { λ r. ⌜ r ≡ cleanAnswer plan (now (indices .entry)) (now («node_words» .entry)) (now (steps .entry)) ⌝ }
-{
-    if let Answer::Refused(r) = check(plan, indices, node_words, steps) {
-        return CleanAnswer::Refused(r);
-    }
-    let words = plan.words;
-    if all_clean(plan, indices, &steps[..words]) {
-        return CleanAnswer::Clean;
-    }
-    CleanAnswer::NotClean
 }

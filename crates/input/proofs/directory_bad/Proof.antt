@@ -1,4 +1,4 @@
--- `run::directory::directory_bad` meets its contract. Assumes nothing.
+-- `input::directory_bad` meets its contract. Assumes nothing.
 use Rattle.input.specs.Input.{directoryBad}
 use borrow.Author.Needs.{needs}
 use Rattle.input.proofs.directory_bad.Statement.{statement}

@@ -1,4 +1,4 @@
--- `run::directory::first_entries` meets its contract: the invariant is that the entries from `entry` on were gone through. Assumes nothing.
+-- `input::first_entries` meets its contract: the invariant is that the entries from `entry` on were gone through. Assumes nothing.
 use mathlib.Core.Path.{_≡_, refl}
 use Prim.Native.Nat.{_≤_, _-_}
 use native.Mathlib.Omega.{arith}

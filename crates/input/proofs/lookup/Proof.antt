@@ -1,4 +1,4 @@
--- `run::directory::lookup` meets its contract: no entry is before the first. Assumes nothing.
+-- `input::lookup` meets its contract: no entry is before the first. Assumes nothing.
 use native.Mathlib.Omega.{arith}
 use borrow.Author.Needs.{needs}
 use Rattle.input.proofs.lookup.Statement.{statement}

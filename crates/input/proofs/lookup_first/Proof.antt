@@ -1,4 +1,4 @@
--- `run::directory::lookup_first` meets its contract. Assumes nothing.
+-- `input::lookup_first` meets its contract. Assumes nothing.
 use native.Mathlib.Omega.{arith}
 use Rattle.input.proofs.Firsts.{firsts-skip}
 use borrow.Author.Needs.{needs}

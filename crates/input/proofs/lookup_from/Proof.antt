@@ -1,4 +1,4 @@
--- `run::directory::lookup_from` meets its contract. Assumes nothing.
+-- `input::lookup_from` meets its contract. Assumes nothing.
 use mathlib.Core.Path.{_≡_, sym, _∙_}
 use Prim.Native.Nat.{_-_, _*_, _+_}
 use native.Mathlib.Omega.{arith}

@@ -1,4 +1,4 @@
--- `run::directory::part` meets its contract. Assumes nothing.
+-- `input::part` meets its contract. Assumes nothing.
 use mathlib.Core.Path.{_≡_, sym, ap, _∙_}
 use Prim.Native.Nat.{ℕ, _+_, _-_}
 use native.Mathlib.Omega.{arith}

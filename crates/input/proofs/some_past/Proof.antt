@@ -1,4 +1,4 @@
--- `run::directory::some_past` meets its contract. Assumes nothing.
+-- `input::some_past` meets its contract. Assumes nothing.
 use mathlib.Core.Path.{_≡_, refl, sym, _∙_}
 use Prim.Native.Nat.{_≤_, _-_, _*_, _+_}
 use native.Mathlib.Omega.{arith}

@@ -1,4 +1,4 @@
--- `run::settings::node_of` meets its contract. Assumes nothing.
+-- `setting::node_of` meets its contract. Assumes nothing.
 use mathlib.Core.Path.{_≡_, refl, sym, _∙_}
 use Prim.Native.Nat.{_≤_}
 use native.Mathlib.Omega.{arith}

@@ -1,9 +1,9 @@
--- `run::settings::set_param` meets its contract. Assumes nothing.
+-- `setting::set_param` meets its contract. Assumes nothing.
 use mathlib.Core.Path.{_≡_, sym, _∙_}
 use Prim.Native.Nat.{_+_, _≤_}
 use lib.ListN.{length}
-use Rattle.node.specs.Sizes.{maxValues}
 use Rattle.refusal.specs.declared.Answer.the-variants.{Accepted, Refused}
+use Rattle.node.specs.Sizes.{maxValues}
 use Rattle.node.specs.Areas.{Room}
 use Rattle.setting.specs.Setting.{settingAnswer}
 use Rattle.setting.proofs.Setting.{Settable, settable, node-room, node-good, floats-refused, words-refused, floats-stored, words-stored}

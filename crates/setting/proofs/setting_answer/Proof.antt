@@ -1,12 +1,12 @@
--- `run::settings::setting_answer` meets its contract. Assumes nothing.
+-- `setting::setting_answer` meets its contract. Assumes nothing.
 use mathlib.Core.Path.{sym, ap, _∙_}
 use borrow.Author.Tests.{lt-ltb, le-ltb, not-true, not-false}
 use lib.ListN.{length}
 use Rattle.refusal.specs.declared.Answer.the-variants.{Refused}
 use Rattle.plan.specs.Areas.{shorter}
+use Rattle.plan.proofs.Bools.{or-is}
 use Rattle.setting.specs.Setting.{settingAnswer}
 use Rattle.setting.proofs.Setting.{Early, words-enough}
-use Rattle.plan.proofs.Bools.{or-is}
 use borrow.Author.Needs.{needs}
 use Rattle.setting.proofs.setting_answer.Statement.{statement}
 use Rattle.setting.proofs.setting_answer.Tie as tie

@@ -1,7 +1,7 @@
 -- `mixer::building::mixer_buffer` meets its contract. Assumes nothing.
 use borrow.Author.Needs.{needs}
 use mathlib.Core.Path.{ap, _∙_}
-use Rattle.mixer.specs.Replies.{bufferReply}
+use Rattle.mixer_replies.specs.Replies.{bufferReply}
 use Rattle.mixer.proofs.building.mixer_buffer.Statement.{statement}
 use Rattle.mixer.proofs.building.mixer_buffer.Tie as tie
 

@@ -1,7 +1,7 @@
 -- `mixer::building::mixer_coefficients` meets its contract. Assumes nothing.
 use borrow.Author.Needs.{needs}
 use mathlib.Core.Path.{_∙_}
-use Rattle.mixer.specs.Replies.{spanReply}
+use Rattle.mixer_replies.specs.Replies.{spanReply}
 use Rattle.mixer.proofs.building.mixer_coefficients.Statement.{statement}
 use Rattle.mixer.proofs.building.mixer_coefficients.Tie as tie
 

@@ -1,7 +1,7 @@
 -- `mixer::building::mixer_new` meets its contract. Assumes nothing.
 use borrow.Author.Needs.{needs}
 use mathlib.Core.Path.{_∙_}
-use Rattle.mixer.specs.Replies.{planReply}
+use Rattle.mixer_replies.specs.Replies.{planReply}
 use Rattle.mixer.proofs.building.mixer_new.Statement.{statement}
 use Rattle.mixer.proofs.building.mixer_new.Tie as tie
 

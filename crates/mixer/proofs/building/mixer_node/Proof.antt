@@ -1,7 +1,7 @@
 -- `mixer::building::mixer_node` meets its contract. Assumes nothing.
 use borrow.Author.Needs.{needs}
 use mathlib.Core.Path.{_∙_}
-use Rattle.mixer.specs.Replies.{nodeReply}
+use Rattle.mixer_replies.specs.Replies.{nodeReply}
 use Rattle.mixer.proofs.building.mixer_node.Statement.{statement}
 use Rattle.mixer.proofs.building.mixer_node.Tie as tie
 

@@ -1,7 +1,7 @@
 -- `mixer::folding::mixer_balance_gains` meets its contract. Assumes nothing.
 use borrow.Author.Needs.{needs}
 use mathlib.Core.Path.{ap, _∙_}
-use Rattle.mixer.specs.Replies.{gainsReply}
+use Rattle.mixer_replies.specs.Replies.{gainsReply}
 use Rattle.mixer.proofs.folding.mixer_balance_gains.Statement.{statement}
 use Rattle.mixer.proofs.folding.mixer_balance_gains.Tie as tie
 

@@ -1,7 +1,7 @@
 -- `mixer::folding::mixer_stereo_matrix` meets its contract. Assumes nothing.
 use borrow.Author.Needs.{needs}
 use mathlib.Core.Path.{ap, _∙_}
-use Rattle.mixer.specs.Replies.{stereoReply}
+use Rattle.mixer_replies.specs.Replies.{stereoReply}
 use Rattle.mixer.proofs.folding.mixer_stereo_matrix.Statement.{statement}
 use Rattle.mixer.proofs.folding.mixer_stereo_matrix.Tie as tie
 

@@ -1,7 +1,7 @@
 -- `mixer::running::mixer_check_plan` meets its contract. Assumes nothing.
 use borrow.Author.Needs.{needs}
 use mathlib.Core.Path.{ap, _∙_}
-use Rattle.mixer.specs.Replies.{statusOf}
+use Rattle.mixer_replies.specs.Replies.{statusOf}
 use Rattle.mixer.proofs.running.mixer_check_plan.Statement.{statement}
 use Rattle.mixer.proofs.running.mixer_check_plan.Tie as tie
 

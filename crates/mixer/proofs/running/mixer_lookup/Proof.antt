@@ -13,8 +13,8 @@ use Rattle.refusal.specs.Tests.{refusal, outcome, areaAfter}
 use Rattle.refusal.specs.declared.Refusal.{Refusal}
 use Rattle.refusal.specs.declared.Answer.the-variants.{Accepted, Refused}
 use Rattle.input.specs.Input.{lookup}
-use Rattle.mixer.specs.declared.CountReply.{CountReply}
-use Rattle.mixer.specs.Replies.{counted, notCounted}
+use Rattle.mixer_replies.specs.declared.CountReply.{CountReply}
+use Rattle.mixer_replies.specs.Replies.{counted, notCounted}
 use Rattle.mixer.specs.Lookup.{partReply, partArea}
 use Rattle.mixer.proofs.running.mixer_lookup.Statement.{statement}
 use Rattle.mixer.proofs.running.mixer_lookup.Tie as tie

@@ -1,7 +1,7 @@
 -- `mixer::running::mixer_process` meets its contract. Assumes nothing.
 use borrow.Author.Needs.{needs}
 use mathlib.Core.Path.{ap, _∙_}
-use Rattle.mixer.specs.Replies.{ranReply}
+use Rattle.mixer_replies.specs.Replies.{ranReply}
 use Rattle.mixer.proofs.running.mixer_process.Statement.{statement}
 use Rattle.mixer.proofs.running.mixer_process.Tie as tie
 

@@ -1,7 +1,7 @@
 -- `mixer::tracing::mixer_clean_answer` meets its contract. Assumes nothing.
 use borrow.Author.Needs.{needs}
 use mathlib.Core.Path.{ap, _∙_}
-use Rattle.mixer.specs.Replies.{cleanReply}
+use Rattle.mixer_replies.specs.Replies.{cleanReply}
 use Rattle.mixer.proofs.tracing.mixer_clean_answer.Statement.{statement}
 use Rattle.mixer.proofs.tracing.mixer_clean_answer.Tie as tie
 

@@ -1,7 +1,7 @@
 -- `mixer::tracing::mixer_output_sources` meets its contract. Assumes nothing.
 use borrow.Author.Needs.{needs}
 use mathlib.Core.Path.{ap, _∙_}
-use Rattle.mixer.specs.Replies.{sourcesReply}
+use Rattle.mixer_replies.specs.Replies.{sourcesReply}
 use Rattle.mixer.proofs.tracing.mixer_output_sources.Statement.{statement}
 use Rattle.mixer.proofs.tracing.mixer_output_sources.Tie as tie
 

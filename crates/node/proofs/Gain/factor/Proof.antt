@@ -1,4 +1,4 @@
--- `Gain::factor` meets its contract: by the arm that the match took, and the test on k. Assumes nothing.
+-- `node::Gain::factor` meets its contract: by the arm that the match took, and the test on k. Assumes nothing.
 use native.Mathlib.Omega.{arith}
 use borrow.Author.Tests.{lt-ltb, le-ltb}
 use borrow.Author.Needs.{needs}

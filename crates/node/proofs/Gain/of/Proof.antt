@@ -1,4 +1,4 @@
--- `Gain::of` meets its contract: by the test on left. Assumes nothing.
+-- `node::Gain::of` meets its contract: by the test on left. Assumes nothing.
 use borrow.Author.Tests.{eq-eqb, ne-eqb}
 use Rattle.node.proofs.Gain.of.Statement.{statement}
 use Rattle.node.proofs.Gain.of.Tie as tie

@@ -1,4 +1,4 @@
--- `Node::finish_block` meets its contract. After i turns the first i values of cur have moved on. Assumes nothing.
+-- `node::Node::finish_block` meets its contract. After i turns the first i values of cur have moved on. Assumes nothing.
 use Prim.Native.Nat.{_≤_, _-_}
 use native.Mathlib.Omega.{arith}
 use mathlib.Core.Path.{_≡_, refl, sym, _∙_}

@@ -1,4 +1,4 @@
--- `Node::gain` meets its contract: by that of `Gain::of`. Assumes nothing.
+-- `node::Node::gain` meets its contract: by that of `Gain::of`. Assumes nothing.
 use borrow.Author.Needs.{needs}
 use Rattle.node.specs.Nodes.{gainOf}
 use Rattle.node.proofs.Node.gain.Statement.{statement}

@@ -1,4 +1,4 @@
--- `Node::new` meets its contract: it is `set` of the node at zero. Assumes nothing.
+-- `node::Node::new` meets its contract: it is `set` of the node at zero. Assumes nothing.
 use Prim.Native.Nat.{ℕ}
 use mathlib.Core.Path.{ap, _∙_}
 use lib.Ieee.{ofBits, ofInt}

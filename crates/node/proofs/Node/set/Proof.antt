@@ -1,4 +1,4 @@
--- `Node::set` meets its contract: by the test on the ramp. Assumes nothing.
+-- `node::Node::set` meets its contract: by the test on the ramp. Assumes nothing.
 use mathlib.Core.Path.{_∙_}
 use borrow.Author.Tests.{eq-eqb, ne-eqb}
 use borrow.Author.Needs.{needs}

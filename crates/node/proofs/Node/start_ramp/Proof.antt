@@ -1,4 +1,4 @@
--- `Node::start_ramp` meets its contract. After i turns step has its first i values. Assumes nothing.
+-- `node::Node::start_ramp` meets its contract. After i turns step has its first i values. Assumes nothing.
 use Prim.Native.Nat.{_≤_, _-_}
 use native.Mathlib.Omega.{arith}
 use mathlib.Core.Path.{_≡_, refl}

@@ -1,4 +1,4 @@
--- `Node::with_target` meets its contract. After i turns the first i values are in target. Assumes nothing.
+-- `node::Node::with_target` meets its contract. After i turns the first i values are in target. Assumes nothing.
 use Prim.Native.Nat.{_≤_, _-_}
 use native.Mathlib.Omega.{arith}
 use mathlib.Core.Path.{_≡_, refl}

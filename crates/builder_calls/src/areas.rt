@@ -1,0 +1,48 @@
+// The stores of the builder calls: each writes a run of an area and leaves the rest.
+ghost use mathlib.Core.Path.{_≡_};
+ghost use Prim.Native.Nat.{_+_, _≤_};
+ghost use lib.ListN.{length, take, replicate};
+ghost use lib.Seq.{sets};
+ghost use Rattle.node.specs.Nodes.{silence};
+ghost use Rattle.plan.specs.Limits.{unitLimits};
+ghost use Rattle.builder.specs.Calls.{numbersFrom};
+
+// n numbers from `from` on, stored from place `at` on. Requires numbers of buffers, and room for them.
+pub fn put_numbers(from: usize, n: usize, at: usize, indices: &mut [u32])
+    requires { ⌜ (from + n ≤ unitLimits .buffers) × (at + n ≤ length (now indices)) ⌝ }
+    ensures { λ _. ⌜ now (indices .exit) ≡ sets (now (indices .entry)) at (numbersFrom from n) ⌝ }
+{
+    for i in 0..n {
+        indices[at + i] = (from + i) as u32;
+    }
+}
+
+// The values, stored from place `at` on; the C interface's lookup uses it too. Requires room for them.
+pub fn put_floats(values: &[f32], at: usize, area: &mut [f32])
+    requires { ⌜ at + length (now values) ≤ length (now area) ⌝ }
+    ensures { λ _. ⌜ now (area .exit) ≡ sets (now (area .entry)) at (now (values .entry)) ⌝ }
+{
+    for i in 0..values.len() {
+        area[at + i] = values[i];
+    }
+}
+
+// The first n words, stored from place `at` on. Requires as many, and room for them.
+pub fn put_words(words: &[u32], n: usize, at: usize, area: &mut [u32])
+    requires { ⌜ (n ≤ length (now words)) × (at + n ≤ length (now area)) ⌝ }
+    ensures { λ _. ⌜ now (area .exit) ≡ sets (now (area .entry)) at (take n (now (words .entry))) ⌝ }
+{
+    for i in 0..n {
+        area[at + i] = words[i];
+    }
+}
+
+// Zeros in the first n places. Requires as many.
+pub fn put_zeros(n: usize, area: &mut [f32])
+    requires { ⌜ n ≤ length (now area) ⌝ }
+    ensures { λ _. ⌜ now (area .exit) ≡ sets (now (area .entry)) 0 (replicate n silence) ⌝ }
+{
+    for i in 0..n {
+        area[i] = 0.0;
+    }
+}

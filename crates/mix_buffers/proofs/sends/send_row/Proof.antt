@@ -1,0 +1,84 @@
+-- `mix_buffers::sends::send_row` meets its contract: the invariant is that the sources that are left make the whole. Assumes nothing.
+use mathlib.Core.Path.{_≡_, refl}
+use Prim.Native.Nat.{_+_, _-_, _≤_}
+use native.Mathlib.Omega.{arith}
+use lib.ListN.{length, drop}
+use borrow.Author.Needs.{needs}
+use Rattle.mix.specs.Mix.{weighs}
+use Rattle.mix.proofs.Given.{pair-of}
+use Rattle.mix.proofs.Turns.{no-source, source-sent, sources-sent}
+use Rattle.mix_buffers.proofs.sends.send_row.Statement.{statement}
+use Rattle.mix_buffers.proofs.sends.send_row.Tie as tie
+
+abbrev Inv-loop : tie.InvT-loop
+Inv-loop area₀ block src d weights v g c₀ c-end area c = (c ≤ c-end) × (length area ≡ length area₀) × (weighs block g weights (v + c) (drop c src) d area ≡ weighs block g weights v src d area₀)
+
+abbrev μ-loop : tie.MeasureT-loop
+μ-loop area₀ block src d weights v g c₀ c-end area c = c-end - c
+
+loop-holds : tie.Need-loop-holds Inv-loop μ-loop
+loop-holds c = let a = c .before .before .before .args in (search needs, refl, no-source (a .block) (a .g) (a .weights .now) (a .src .now) (a .d) (a .v) (a .area .now))
+
+mul-s : tie.Need-mul-s Inv-loop μ-loop
+mul-s c = search needs
+
+shared-slice-read-s : tie.Need-shared-slice-read-s Inv-loop μ-loop
+shared-slice-read-s c = search needs
+
+cast-s : tie.Need-cast-s Inv-loop μ-loop
+cast-s c = omega (arith, c .shared-slice-known3 .given (c .before .before .loop .c))
+
+add-send-into : tie.Need-add-send-into Inv-loop μ-loop
+add-send-into c = search needs
+
+mul-send-into : tie.Need-mul-send-into Inv-loop μ-loop
+mul-send-into c = search needs
+
+shared-slice-read-send-into : tie.Need-shared-slice-read-send-into Inv-loop μ-loop
+shared-slice-read-send-into c = search needs
+
+send-into-requires : tie.Need-send-into-requires Inv-loop μ-loop
+send-into-requires c κs = let l = c .before .before .before .before .loop in (pair-of (l .inv .1) (c .before .before .before .before .before .before .before .before .pre .0) (l .c) (c .before .before .before .loop-test .taken), c .before .before .before .before .before .before .before .before .pre .1 .1)
+
+add-c : tie.Need-add-c Inv-loop μ-loop
+add-c c = search needs
+
+loop-less : tie.Need-loop-less Inv-loop μ-loop
+loop-less c = search needs
+
+loop-again : tie.Need-loop-again Inv-loop μ-loop
+loop-again c =
+    let a = c .before .before .before .before .before .before .before .before .before .before .before .args in
+    let l = c .before .before .before .before .before .before .before .loop in (
+      search needs,
+      search needs,
+      source-sent (a .block) (a .g) (a .weights .now) (a .src .now) (a .d) (a .v) (l .c) (l .area) (search needs) (l .inv .2) (c .before .before .send-into .ensures),
+    )
+
+same-length : tie.Need-same-length Inv-loop μ-loop
+same-length c = omega arith
+
+returns : tie.Need-returns Inv-loop μ-loop
+returns c =
+    let a = c .before .before .before .before .before .args in
+    let l = c .before .loop in sources-sent (a .block) (a .g) (a .weights .now) (a .src .now) (a .d) (a .v) (l .c) (l .area) (omega arith) (l .inv .2)
+
+pub send-row-spec : {M : Type 1} → statement M
+send-row-spec =
+    tie.close
+    (tie.spec
+    Inv-loop
+    μ-loop
+    loop-holds
+    mul-s
+    shared-slice-read-s
+    cast-s
+    add-send-into
+    mul-send-into
+    shared-slice-read-send-into
+    send-into-requires
+    add-c
+    loop-less
+    loop-again
+    same-length
+    returns)

@@ -1,0 +1,14 @@
+// The steps' loops over the buffers of one area. Ports those of `Plan::process` in src/engine/plan.rs.
+// All of it is for the crates above and not the interface: a function that has a `requires` says in its comment what it takes.
+mod buffers;
+mod gains;
+mod sends;
+mod sums;
+
+pub use buffers::append;
+pub use buffers::clear;
+pub use buffers::copy_buffer;
+pub use buffers::fill_buffer;
+pub use gains::gain;
+pub use sends::send;
+pub use sums::matrix;

@@ -1,0 +1,147 @@
+// Matrix. A row is made piece by piece, all its columns at each piece, so that it is stored once; each sample sees the sources in order.
+use mix_samples::add_samples;
+use mix_samples::is_silent;
+use mix_samples::later;
+use mix_samples::store;
+use node::Gain;
+ghost use mathlib.Core.Path.{_≡_};
+ghost use Prim.Native.Nat.{ℕ, _+_, _*_, _≤_, _<_};
+ghost use lib.ListN.{length, getD};
+ghost use lib.Ieee.{nan};
+ghost use lib.Seq.{sets};
+ghost use Rattle.node.specs.Sizes.{maxRamp};
+ghost use Rattle.node.specs.Nodes.{gainAt};
+ghost use Rattle.mix.specs.Samples.{silence, sampled};
+ghost use Rattle.mix.specs.Mix.{added, clearBuffer, columns, rows, Inside, AllInside, Row, Buffers, Values};
+ghost use Rattle.mix.specs.Loops.{rowSample};
+
+// The m samples from p on added to the first m of t, by a gain from sample j on; a gain at rest equal to 0 is skipped. Requires at most 16
+// samples of a block, within the area.
+fn add_part(area: &[f32], p: usize, m: usize, t: &mut [f32; 16], j: usize, g: Gain)
+    requires { ⌜ (p + m ≤ length (now area)) × (m ≤ 16) ⌝ }
+    requires { ⌜ (j + m ≤ maxRamp) × (length (now t) ≡ 16) ⌝ }
+    ensures { λ _. ⌜ length (now (t .exit)) ≡ 16 ⌝ }
+    ensures { λ _. ⌜ ((i : ℕ) → i < m → getD (now (t .exit)) i nan ≡ added g (j + i) (getD (now (area .entry)) (p + i) nan) (getD (now (t .entry)) i nan)) ⌝ }
+{
+    if is_silent(g) {
+        return;
+    }
+    add_samples(&area[p..p + m], t, j, later(g, j as u32));
+}
+
+// Samples j to j + m of a row, added to the first m of t, by the gains from value v on. Requires at most 16 samples of a block, sources
+// within the area, and a value for each.
+fn sum_columns(
+    area: &[f32],
+    t: &mut [f32; 16],
+    block: usize,
+    src: &[u32],
+    cur: &[f32],
+    step: &[f32],
+    target: &[f32],
+    left: u32,
+    v: usize,
+    j: usize,
+    m: usize,
+)
+    requires { ⌜ Values (v + length (now src)) (now cur) (now step) (now target) ⌝ }
+    requires { ⌜ (j + m ≤ block) × (block ≤ maxRamp) × (m ≤ 16) × (length (now t) ≡ 16) ⌝ }
+    requires { ⌜ AllInside block (now src) (now area) ⌝ }
+    ensures { λ _. ⌜ length (now (t .exit)) ≡ 16 ⌝ }
+    ensures { λ _. ⌜ ((i : ℕ) → i < m → getD (now (t .exit)) i nan ≡ rowSample block (gainAt (now (cur .entry)) (now (step .entry)) (now (target .entry)) left) v (now (src .entry)) (now (area .entry)) (j + i) (getD (now (t .entry)) i nan)) ⌝ }
+{
+    for c in 0..src.len() {
+        let s = src[c] as usize;
+        let i = v + c;
+        let g = Gain::of(cur[i], step[i], target[i], left);
+        add_part(area, s * block + j, m, t, j, g);
+    }
+}
+
+// Samples j to j + m of a row: its sum is made in a local, and stored once. Requires as `sum_columns`, and the row's buffer within the area.
+fn sum_piece(
+    area: &mut [f32],
+    block: usize,
+    src: &[u32],
+    d: usize,
+    cur: &[f32],
+    step: &[f32],
+    target: &[f32],
+    left: u32,
+    v: usize,
+    j: usize,
+    m: usize,
+)
+    requires { ⌜ Values (v + length (now src)) (now cur) (now step) (now target) ⌝ }
+    requires { ⌜ (j + m ≤ block) × (block ≤ maxRamp) × (m ≤ 16) × Inside block d (now area) ⌝ }
+    requires { ⌜ AllInside block (now src) (now area) ⌝ }
+    ensures { λ _. ⌜ now (area .exit) ≡ sets (now (area .entry)) (d * block + j) (sampled m (λ i. rowSample block (gainAt (now (cur .entry)) (now (step .entry)) (now (target .entry)) left) v (now (src .entry)) (now (area .entry)) (j + i) silence)) ⌝ }
+{
+    let mut t = [0.0f32; 16];
+    sum_columns(
+        &area[..],
+        &mut t,
+        block,
+        src,
+        cur,
+        step,
+        target,
+        left,
+        v,
+        j,
+        m,
+    );
+    store(&t, area, d * block + j, m);
+}
+
+// One row: buffer d, by the gains from value v on. Requires sources and d within the area, d none of them, a value for each source, and a
+// block that is not too long.
+fn matrix_row(
+    area: &mut [f32],
+    block: usize,
+    src: &[u32],
+    d: usize,
+    cur: &[f32],
+    step: &[f32],
+    target: &[f32],
+    left: u32,
+    v: usize,
+)
+    requires { ⌜ Values (v + length (now src)) (now cur) (now step) (now target) ⌝ }
+    requires { ⌜ Row block (now src) d (now area) ⌝ }
+    ensures { λ _. ⌜ now (area .exit) ≡ columns block (gainAt (now (cur .entry)) (now (step .entry)) (now (target .entry)) left) v (now (src .entry)) d (clearBuffer block d (now (area .entry))) ⌝ }
+{
+    let e = block / 16;
+    for i in 0..e {
+        sum_piece(area, block, src, d, cur, step, target, left, v, 16 * i, 16);
+    }
+    let r = 16 * e;
+    if r == block {
+        return;
+    }
+    let m = block - r;
+    sum_piece(area, block, src, d, cur, step, target, left, v, r, m);
+}
+
+// Matrix: the rows dst from the columns src, by the rows and the left of its node. Requires a value for each row and column; buffers within
+// the area, no source a destination; and a block that is not too long.
+pub fn matrix(
+    area: &mut [f32],
+    block: usize,
+    src: &[u32],
+    dst: &[u32],
+    cur: &[f32],
+    step: &[f32],
+    target: &[f32],
+    left: u32,
+)
+    requires { ⌜ Buffers block (now src) (now dst) (now area) ⌝ }
+    requires { ⌜ Values (length (now dst) * length (now src)) (now cur) (now step) (now target) ⌝ }
+    ensures { λ _. ⌜ now (area .exit) ≡ rows block (gainAt (now (cur .entry)) (now (step .entry)) (now (target .entry)) left) 0 (now (src .entry)) (now (dst .entry)) (now (area .entry)) ⌝ }
+{
+    let n = src.len();
+    for r in 0..dst.len() {
+        let d = dst[r] as usize;
+        matrix_row(area, block, src, d, cur, step, target, left, r * n);
+    }
+}

@@ -1,0 +1,99 @@
+// One buffer into another, in pieces of 16 samples and a last one: the source's part is handed on to the loop, and the destination's samples go
+// through a local, since two parts of one area cannot be lent at once.
+use crate::samples::add_samples;
+use crate::samples::later;
+use crate::samples::load;
+use crate::samples::scale_samples;
+use crate::samples::store;
+use crate::samples::weigh_samples;
+use node::Gain;
+ghost use mathlib.Core.Path.{_≡_};
+ghost use Rattle.mix.specs.Samples.{sample, put};
+ghost use Rattle.mix.specs.Mix.{Pair, scaled, scale};
+ghost use Rattle.mix.specs.Loops.{plusScaled, plusWeighted, mixedAt, Piece};
+
+// d = s × gain for m samples, from sample k on. Requires at most 16 of a block, with both parts within the area.
+fn scale_piece(area: &mut [f32], from: usize, to: usize, m: usize, k: usize, g: Gain)
+    requires { ⌜ Piece from to m k (now area) ⌝ }
+    ensures { λ _. ⌜ now (area .exit) ≡ mixedAt (λ k x y. scaled g k x) from to m k (now (area .entry)) ⌝ }
+{
+    let mut t = [0.0f32; 16];
+    scale_samples(&area[from..from + m], &mut t, k, later(g, k as u32));
+    store(&t, area, to, m);
+}
+
+// d = s × gain. Requires two different buffers within the area, and a block that is not too long.
+pub fn scale_into(area: &mut [f32], block: usize, s: usize, d: usize, g: Gain)
+    requires { ⌜ Pair block s d (now area) ⌝ }
+    ensures { λ _. ⌜ now (area .exit) ≡ scale block g s d (now (area .entry)) ⌝ }
+{
+    let from = s * block;
+    let to = d * block;
+    let e = block / 16;
+    for i in 0..e {
+        scale_piece(area, from + 16 * i, to + 16 * i, 16, 16 * i, g);
+    }
+    let r = 16 * e;
+    if r == block {
+        return;
+    }
+    scale_piece(area, from + r, to + r, block - r, r, g);
+}
+
+// d += s × gain for m samples. Requires as `scale_piece`.
+fn add_piece(area: &mut [f32], from: usize, to: usize, m: usize, k: usize, g: Gain)
+    requires { ⌜ Piece from to m k (now area) ⌝ }
+    ensures { λ _. ⌜ now (area .exit) ≡ mixedAt (plusScaled g) from to m k (now (area .entry)) ⌝ }
+{
+    let mut t = [0.0f32; 16];
+    load(&area[to..to + m], &mut t);
+    add_samples(&area[from..from + m], &mut t, k, later(g, k as u32));
+    store(&t, area, to, m);
+}
+
+// d += s × gain. Requires as `scale_into`.
+pub fn add_into(area: &mut [f32], block: usize, s: usize, d: usize, g: Gain)
+    requires { ⌜ Pair block s d (now area) ⌝ }
+    ensures { λ _. ⌜ now (area .exit) ≡ put block d (λ k. plusScaled g k (sample block (now (area .entry)) s k) (sample block (now (area .entry)) d k)) (now (area .entry)) ⌝ }
+{
+    let from = s * block;
+    let to = d * block;
+    let e = block / 16;
+    for i in 0..e {
+        add_piece(area, from + 16 * i, to + 16 * i, 16, 16 * i, g);
+    }
+    let r = 16 * e;
+    if r == block {
+        return;
+    }
+    add_piece(area, from + r, to + r, block - r, r, g);
+}
+
+// d += s × w × gain for m samples. Requires as `scale_piece`.
+fn weigh_piece(area: &mut [f32], from: usize, to: usize, m: usize, k: usize, w: f32, g: Gain)
+    requires { ⌜ Piece from to m k (now area) ⌝ }
+    ensures { λ _. ⌜ now (area .exit) ≡ mixedAt (plusWeighted w g) from to m k (now (area .entry)) ⌝ }
+{
+    let mut t = [0.0f32; 16];
+    load(&area[to..to + m], &mut t);
+    weigh_samples(&area[from..from + m], &mut t, k, w, later(g, k as u32));
+    store(&t, area, to, m);
+}
+
+// d += s × w × gain. Requires as `scale_into`.
+pub fn weigh_into(area: &mut [f32], block: usize, s: usize, d: usize, w: f32, g: Gain)
+    requires { ⌜ Pair block s d (now area) ⌝ }
+    ensures { λ _. ⌜ now (area .exit) ≡ put block d (λ k. plusWeighted w g k (sample block (now (area .entry)) s k) (sample block (now (area .entry)) d k)) (now (area .entry)) ⌝ }
+{
+    let from = s * block;
+    let to = d * block;
+    let e = block / 16;
+    for i in 0..e {
+        weigh_piece(area, from + 16 * i, to + 16 * i, 16, 16 * i, w, g);
+    }
+    let r = 16 * e;
+    if r == block {
+        return;
+    }
+    weigh_piece(area, from + r, to + r, block - r, r, w, g);
+}

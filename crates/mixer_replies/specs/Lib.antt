@@ -1,0 +1,2 @@
+-- The reply for each answer.
+pub mod Replies

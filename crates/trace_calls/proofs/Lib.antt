@@ -1,0 +1,2 @@
+-- For this crate's own proofs: the ways out of the calls.
+mod Outcomes

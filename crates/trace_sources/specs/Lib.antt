@@ -1,0 +1,2 @@
+-- What the functions of the walk go by.
+pub mod Loops

@@ -1,0 +1,69 @@
+-- What the contracts of the private functions cite: the source sets of all buffers in an area of words, what a loop over a list of buffers makes
+-- of them, and what the walk takes for granted. Definitions only.
+use Prim.Native.Nat.{ℕ, suc, _+_, _*_, max}
+use mathlib.Core.Path.{_≡_}
+use mathlib.Core.Bool.{Bool, _||_, cond}
+use mathlib.Core.List.{List}
+use lib.ListN.{length, getD}
+use Rattle.sets.specs.declared.Set.{Set}
+use Rattle.sets.specs.Sets.{member, members}
+use Rattle.plan.specs.declared.Plan.{Plan}
+use Rattle.plan.specs.declared.Span.{Span}
+use Rattle.plan.specs.declared.Step.{Step}
+use Rattle.plan.specs.declared.Step.the-variants.{Patch, Gain, Matrix, Clear, Send, Output}
+use Rattle.plan.specs.Check.{has}
+use Rattle.plan.specs.Sound.{Within, Inside, IndexList}
+
+-- ---- the areas: four words for each of 256 buffers, and for each of 32 slots
+
+abbrev pub areaWords : ℕ
+areaWords = 1024
+
+abbrev pub slotWords : ℕ
+slotWords = 128
+
+abbrev pub setAt : List ℕ → ℕ → Set
+setAt area b =
+    record { w0 = getD area (b * 4) 0; w1 = getD area (b * 4 + 1) 0; w2 = getD area (b * 4 + 2) 0; w3 = getD area (b * 4 + 3) 0 }
+
+-- its sets, as the definition of the trace has them: whether input i is in the set of buffer b
+abbrev pub sourcesOf : List ℕ → ℕ → ℕ → Bool
+sourcesOf area b i = member (setAt area b) i
+
+-- and the members of one, ascending
+abbrev pub listAt : List ℕ → ℕ → List ℕ
+listAt area b = members (setAt area b)
+
+-- ---- loops over a list of buffers: the set of each becomes what f makes of it, input by input
+abbrev pub changed : (ℕ → Bool → Bool) → (ℕ → ℕ → Bool) → List ℕ → ℕ → ℕ → Bool
+changed f sources dst b i = cond (has dst b) (f i (sources b i)) (sources b i)
+
+-- another set, and its own with another
+abbrev pub other : Set → ℕ → Bool → Bool
+other set i own = member set i
+
+abbrev pub joined : Set → ℕ → Bool → Bool
+joined set i own = own || member set i
+
+-- ---- what the tests said of an accepted plan, and the area of its sets
+
+-- of a step, and of two spans
+pub record Fit (p : Plan) (indices area : List ℕ) (x : Step) : Type 0 where
+  pub list : IndexList p indices
+  pub inside : Inside p x
+  pub room : length area ≡ areaWords
+
+pub record Spans (p : Plan) (indices area : List ℕ) (src dst : Span) : Type 0 where
+  pub list : IndexList p indices
+  pub sources : Within (p .indices) src
+  pub targets : Within (p .indices) dst
+  pub room : length area ≡ areaWords
+
+-- ---- the count of slots where step x comes to those before it
+abbrev pub withSlot : ℕ → Step → ℕ
+withSlot n (Patch i c d) = n
+withSlot n (Gain k a d) = n
+withSlot n (Matrix k a d) = n
+withSlot n (Clear d) = n
+withSlot n (Send k a d c) = n
+withSlot n (Output a o) = max (suc o) n
