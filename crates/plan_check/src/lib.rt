@@ -6,6 +6,7 @@ use plan::Step;
 use plan_areas::bad_block;
 use plan_areas::over_limits;
 use plan_areas::short_areas;
+use plan_areas::short_lists;
 use plan_reader::read_step;
 use plan_steps::step_wide;
 use refusal::Answer;
@@ -64,7 +65,8 @@ fn check_steps(plan: Plan, indices: &[u32], ascending: bool, words: &[u32]) -> C
     Counted::Channels(total)
 }
 
-// `check`, with the channels of the steps. Requires as it does.
+// The plan check of a call that found out by itself whether one of its areas is too short, with the channels of the steps. Requires that `short`
+// is true where one of these three lists is too short.
 fn check_counting(
     plan: Plan,
     short: bool,
@@ -96,12 +98,11 @@ fn check_counting(
     check_steps(plan, indices, ascending, &steps[..words])
 }
 
-// The plan check of a call that found out by itself whether one of its areas is too short. Requires that `short` is
-// true where one of these three lists is too short.
-pub fn check(plan: Plan, short: bool, indices: &[u32], node_words: &[u32], steps: &[u32]) -> Answer
-    requires { ⌜ (short ≡ false → shortLists plan (now indices) (now «node_words») (now steps) ≡ false) ⌝ }
-    ensures { λ r. ⌜ r ≡ checked plan short (now (indices .entry)) (now («node_words» .entry)) (now (steps .entry)) ⌝ }
+// The plan check of a call that is lent the index list, the node words and the step words.
+pub fn check_lists(plan: Plan, indices: &[u32], node_words: &[u32], steps: &[u32]) -> Answer
+    ensures { λ r. ⌜ r ≡ checked plan (shortLists plan (now (indices .entry)) (now («node_words» .entry)) (now (steps .entry))) (now (indices .entry)) (now («node_words» .entry)) (now (steps .entry)) ⌝ }
 {
+    let short = short_lists(plan, indices, node_words, steps);
     match check_counting(plan, short, indices, node_words, steps) {
         Counted::Channels(_) => Answer::Accepted,
         Counted::Refused(r) => Answer::Refused(r),

@@ -2,6 +2,7 @@
 mod slots;
 
 use plan::Plan;
+use plan_check::check_lists;
 use refusal::Answer;
 use refusal::Refusal;
 use slots::LIST_PLACES;
@@ -14,17 +15,7 @@ use trace_sources::behind;
 use trace_sources::load;
 ghost use mathlib.Core.Path.{_≡_};
 ghost use lib.ListN.{length};
-ghost use Rattle.plan.specs.Areas.{shortLists};
-ghost use Rattle.plan.specs.Check.{checked};
 ghost use Rattle.trace.specs.Calls.{sourcesAnswer, sourcesArea, allAnswer, allCounts, allLists, cleanAnswer};
-
-// The plan check of a call that is lent these three areas.
-fn check(plan: Plan, indices: &[u32], node_words: &[u32], steps: &[u32]) -> Answer
-    ensures { λ r. ⌜ r ≡ checked plan (shortLists plan (now (indices .entry)) (now («node_words» .entry)) (now (steps .entry))) (now (indices .entry)) (now («node_words» .entry)) (now (steps .entry)) ⌝ }
-{
-    let short = plan_areas::short_lists(plan, indices, node_words, steps);
-    plan_check::check(plan, short, indices, node_words, steps)
-}
 
 // The inputs behind one slot, ascending, at the front of `list`.
 pub fn output_sources(
@@ -38,7 +29,7 @@ pub fn output_sources(
     ensures answer { λ r. ⌜ r ≡ sourcesAnswer plan slot (now (indices .entry)) (now («node_words» .entry)) (now (steps .entry)) (length (now (list .entry))) ⌝ }
     ensures list { λ _. ⌜ now (list .exit) ≡ sourcesArea plan slot (now (indices .entry)) (now («node_words» .entry)) (now (steps .entry)) (now (list .entry)) ⌝ }
 {
-    if let Answer::Refused(r) = check(plan, indices, node_words, steps) {
+    if let Answer::Refused(r) = check_lists(plan, indices, node_words, steps) {
         return Sources::Refused(r);
     }
     let words = plan.words;
@@ -70,7 +61,7 @@ pub fn all_sources(
     ensures counts { λ _. ⌜ now (counts .exit) ≡ allCounts plan (now (indices .entry)) (now («node_words» .entry)) (now (steps .entry)) (now (counts .entry)) (length (now (lists .entry))) ⌝ }
     ensures lists { λ _. ⌜ now (lists .exit) ≡ allLists plan (now (indices .entry)) (now («node_words» .entry)) (now (steps .entry)) (length (now (counts .entry))) (now (lists .entry)) ⌝ }
 {
-    if let Answer::Refused(refused) = check(plan, indices, node_words, steps) {
+    if let Answer::Refused(refused) = check_lists(plan, indices, node_words, steps) {
         return Sources::Refused(refused);
     }
     let words = plan.words;
@@ -87,7 +78,7 @@ pub fn all_sources(
 pub fn clean_answer(plan: Plan, indices: &[u32], node_words: &[u32], steps: &[u32]) -> CleanAnswer
     ensures { λ r. ⌜ r ≡ cleanAnswer plan (now (indices .entry)) (now («node_words» .entry)) (now (steps .entry)) ⌝ }
 {
-    if let Answer::Refused(r) = check(plan, indices, node_words, steps) {
+    if let Answer::Refused(r) = check_lists(plan, indices, node_words, steps) {
         return CleanAnswer::Refused(r);
     }
     let words = plan.words;

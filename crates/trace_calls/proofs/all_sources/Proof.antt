@@ -15,10 +15,10 @@ use Rattle.trace_calls.proofs.all_sources.Tie as tie
 
 -- the plan check accepted
 fine : (c : tie.After-enum-told) → (let a = c .before .before .before .before .before .before .before .before .args in checked (a .plan) (shortLists (a .plan) (a .indices .now) (a .node-words .now) (a .steps .now)) (a .indices .now) (a .node-words .now) (a .steps .now) ≡ Accepted)
-fine c = sym (c .before .before .check .ensures) ∙ c .enum-told .given .1
+fine c = sym (c .before .before .check-lists .ensures) ∙ c .enum-told .given .1
 
-check-requires : tie.Need-check-requires
-check-requires c κs = search needs
+check-lists-requires : tie.Need-check-lists-requires
+check-lists-requires c κs = search needs
 
 enum-known-refused : tie.Need-enum-known-refused
 enum-known-refused c = search needs
@@ -26,7 +26,7 @@ enum-known-refused c = search needs
 returns : tie.Need-returns
 returns c =
     let a = c .before .before .before .before .before .before .before .before .before .args in
-    all-refused (a .plan) (a .indices .now) (a .node-words .now) (a .steps .now) (a .counts .now) (a .lists .now) _ _ (all-by-plan (a .plan) (a .indices .now) (a .node-words .now) (a .steps .now) (a .counts .now) (a .lists .now) _ (sym (c .before .before .before .check .ensures) ∙ c .before .refused .given .1)) refl
+    all-refused (a .plan) (a .indices .now) (a .node-words .now) (a .steps .now) (a .counts .now) (a .lists .now) _ _ (all-by-plan (a .plan) (a .indices .now) (a .node-words .now) (a .steps .now) (a .counts .now) (a .lists .now) _ (sym (c .before .before .before .check-lists .ensures) ∙ c .before .refused .given .1)) refl
 
 enum-told : tie.Need-enum-told
 enum-told c = search needs
@@ -86,7 +86,7 @@ pub all-sources-spec : {M : Type 1} → statement M
 all-sources-spec =
     tie.close
     (tie.spec
-    check-requires
+    check-lists-requires
     enum-known-refused
     returns
     enum-told

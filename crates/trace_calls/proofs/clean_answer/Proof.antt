@@ -11,16 +11,16 @@ use Rattle.trace_calls.proofs.clean_answer.Tie as tie
 -- the plan check accepted
 fine : (c : tie.After-enum-told) → (let a = c .before .before .before .before .before .before .args in
     checked (a .plan) (shortLists (a .plan) (a .indices .now) (a .node-words .now) (a .steps .now)) (a .indices .now) (a .node-words .now) (a .steps .now) ≡ Accepted)
-fine c = sym (c .before .before .check .ensures) ∙ c .enum-told .given .1
+fine c = sym (c .before .before .check-lists .ensures) ∙ c .enum-told .given .1
 
-check-requires : tie.Need-check-requires
-check-requires c κs = search needs
+check-lists-requires : tie.Need-check-lists-requires
+check-lists-requires c κs = search needs
 
 enum-known-r : tie.Need-enum-known-r
 enum-known-r c = search needs
 
 returns : tie.Need-returns
-returns c = let a = c .before .before .before .before .before .before .before .args in sym (clean-refused (a .plan) (a .indices .now) (a .node-words .now) (a .steps .now) _ (sym (c .before .before .before .check .ensures) ∙ c .before .r .given .1))
+returns c = let a = c .before .before .before .before .before .before .before .args in sym (clean-refused (a .plan) (a .indices .now) (a .node-words .now) (a .steps .now) _ (sym (c .before .before .before .check-lists .ensures) ∙ c .before .r .given .1))
 
 enum-told : tie.Need-enum-told
 enum-told c = search needs
@@ -41,7 +41,7 @@ pub clean-answer-spec : {M : Type 1} → statement M
 clean-answer-spec =
     tie.close
     (tie.spec
-    check-requires
+    check-lists-requires
     enum-known-r
     returns
     enum-told

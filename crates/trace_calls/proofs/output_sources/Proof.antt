@@ -17,7 +17,7 @@ use Rattle.trace_calls.proofs.output_sources.Tie as tie
 
 -- the plan check accepted
 fine : (c : tie.After-enum-told) → (let a = c .before .before .before .before .before .before .before .args in checked (a .plan) (shortLists (a .plan) (a .indices .now) (a .node-words .now) (a .steps .now)) (a .indices .now) (a .node-words .now) (a .steps .now) ≡ Accepted)
-fine c = sym (c .before .before .check .ensures) ∙ c .enum-told .given .1
+fine c = sym (c .before .before .check-lists .ensures) ∙ c .enum-told .given .1
 
 -- the slot's set has the members that its list has
 found : (c : tie.After-load) → (let a = c .before .before .before .before .before .before .before .before .before .before .before .before .before .before .args in members (c .load .result) ≡ sourceList (a .slot) (tracedSteps (a .plan) (a .indices .now) (a .steps .now)))
@@ -28,8 +28,8 @@ found c =
     ap members (c .load .ensures)
     ∙ set-listed (b .last .1 .1 .1 .0) xs (zeros-or slotWords (b .last .1 .1 .1 .0) (λ s i. behind s noSources xs i) (b .ensures .1)) (a .slot)
 
-check-requires : tie.Need-check-requires
-check-requires c κs = search needs
+check-lists-requires : tie.Need-check-lists-requires
+check-lists-requires c κs = search needs
 
 enum-known-r : tie.Need-enum-known-r
 enum-known-r c = search needs
@@ -37,7 +37,7 @@ enum-known-r c = search needs
 returns : tie.Need-returns
 returns c =
     let a = c .before .before .before .before .before .before .before .before .args in
-    refused (a .plan) (a .slot) (a .indices .now) (a .node-words .now) (a .steps .now) (a .list .now) _ _ (by-plan (a .plan) (a .slot) (a .indices .now) (a .node-words .now) (a .steps .now) (a .list .now) _ (sym (c .before .before .before .check .ensures) ∙ c .before .r .given .1)) refl
+    refused (a .plan) (a .slot) (a .indices .now) (a .node-words .now) (a .steps .now) (a .list .now) _ _ (by-plan (a .plan) (a .slot) (a .indices .now) (a .node-words .now) (a .steps .now) (a .list .now) _ (sym (c .before .before .before .check-lists .ensures) ∙ c .before .r .given .1)) refl
 
 enum-told : tie.Need-enum-told
 enum-told c = search needs
@@ -104,7 +104,7 @@ pub output-sources-spec : {M : Type 1} → statement M
 output-sources-spec =
     tie.close
     (tie.spec
-    check-requires
+    check-lists-requires
     enum-known-r
     returns
     enum-told
