@@ -47,7 +47,7 @@ emptyPlan block = record { block = block; buffers = 0; indices = 0; coefficients
 -- ---- `buffers`: 5, 2
 
 abbrev pub lentIndices : ℕ → Lengths
-lentIndices n = record { indices = n; coefficients = 0; floats = 0; words = 0; steps = 0 }
+lentIndices n = record { indices = n; coefficients = 0; nodeFloats = 0; nodeWords = 0; stepWords = 0 }
 
 abbrev pub buffersTests : Limits → Plan → ℕ → ℕ → List Test
 buffersTests l p n len = test overLimit (growsOver l p (buffersGrowth n)) ∷ test shortArea (growsPast p (buffersGrowth n) (lentIndices len)) ∷ []
@@ -86,7 +86,7 @@ bufferNumber p s i indices =
 -- ---- `coefficients`: 5, 2
 
 abbrev pub lentCoefficients : ℕ → Lengths
-lentCoefficients n = record { indices = 0; coefficients = n; floats = 0; words = 0; steps = 0 }
+lentCoefficients n = record { indices = 0; coefficients = n; nodeFloats = 0; nodeWords = 0; stepWords = 0 }
 
 abbrev pub coefficientsTests : Limits → Plan → ℕ → ℕ → List Test
 coefficientsTests l p n len =
@@ -106,7 +106,7 @@ coefficientsSpan l p n len = outcome (coefficientsAnswer l p n len) (spanned.Mad
 -- ---- `node`: 5, 2, 7, 8, 10
 
 abbrev pub lentNodes : ℕ → ℕ → Lengths
-lentNodes floats words = record { indices = 0; coefficients = 0; floats = floats; words = words; steps = 0 }
+lentNodes floats words = record { indices = 0; coefficients = 0; nodeFloats = floats; nodeWords = words; stepWords = 0 }
 
 -- n values
 abbrev pub nodeTests : Limits → Plan → ℕ → ℕ → ℕ → ℕ → List ℕ → List Test
@@ -144,7 +144,7 @@ recordLength [] = 0
 recordLength (map ∷ ws) = 1 + fields map
 
 abbrev pub lentSteps : ℕ → Lengths
-lentSteps n = record { indices = 0; coefficients = 0; floats = 0; words = 0; steps = n }
+lentSteps n = record { indices = 0; coefficients = 0; nodeFloats = 0; nodeWords = 0; stepWords = n }
 
 abbrev pub unreadable : Read → Bool
 unreadable (Found s next) = false

@@ -57,9 +57,9 @@ growsOver l p g =
 pub record Lengths : Type 0 where
   pub indices : ℕ
   pub coefficients : ℕ
-  pub floats : ℕ
-  pub words : ℕ
-  pub steps : ℕ
+  pub nodeFloats : ℕ
+  pub nodeWords : ℕ
+  pub stepWords : ℕ
 
 abbrev pub tooShort : ℕ → ℕ → Change → ℕ → Bool
 tooShort length count same each = false
@@ -69,9 +69,9 @@ abbrev pub growsPast : Plan → Growth → Lengths → Bool
 growsPast p g l =
     tooShort (l .indices) (p .indices) (g .indices) 1
     || tooShort (l .coefficients) (p .coefficients) (g .coefficients) 1
-    || tooShort (l .floats) (p .nodes) (g .nodes) nodeFloats
-    || tooShort (l .words) (p .nodes) (g .nodes) nodeWords
-    || tooShort (l .steps) (p .words) (g .words) 1
+    || tooShort (l .nodeFloats) (p .nodes) (g .nodes) nodeFloats
+    || tooShort (l .nodeWords) (p .nodes) (g .nodes) nodeWords
+    || tooShort (l .stepWords) (p .words) (g .words) 1
 
 -- ---- the growth of each call
 

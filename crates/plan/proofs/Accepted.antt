@@ -41,7 +41,7 @@ module _ (p : Plan) (short : Bool) (indices words steps : List ℕ) (e : checked
 
 -- the room of all six areas, where the call tested them, and of three
 pub accepted-room : (p : Plan) (a : Areas) → checkPlan p a ≡ Accepted → Room p a
-accepted-room p a e = areas-none p a .0 (accepted-sound p (shortAreas p a) (a .indices) (a .words) (a .steps) e .areas)
+accepted-room p a e = areas-none p a .0 (accepted-sound p (shortAreas p a) (a .indices) (a .nodeWords) (a .stepWords) e .areas)
 
 pub accepted-lists : (p : Plan) (indices words steps : List ℕ) → checked p (shortLists p indices words steps) indices words steps ≡ Accepted
     → ListRoom p indices words steps

@@ -51,9 +51,9 @@ limits-none l p = (
 pub record Room (p : Plan) (a : Areas) : Type 0 where
   pub indices : p .indices ≤ length (a .indices)
   pub coefficients : p .coefficients ≤ length (a .coefficients)
-  pub floats : p .nodes * nodeFloats ≤ length (a .floats)
-  pub words : p .nodes * nodeWords ≤ length (a .words)
-  pub steps : p .words ≤ length (a .steps)
+  pub floats : p .nodes * nodeFloats ≤ length (a .nodeFloats)
+  pub words : p .nodes * nodeWords ≤ length (a .nodeWords)
+  pub steps : p .words ≤ length (a .stepWords)
   pub buffers : p .buffers * p .block ≤ length (a .buffers)
 
 pub record ListRoom (p : Plan) (indices words steps : List ℕ) : Type 0 where
@@ -106,10 +106,10 @@ module _ (p : Plan) where
   )
 
   -- a call that is lent all six areas is lent these three
-  pub areas-lists : (a : Areas) → shortAreas p a ≡ false → shortLists p (a .indices) (a .words) (a .steps) ≡ false
+  pub areas-lists : (a : Areas) → shortAreas p a ≡ false → shortLists p (a .indices) (a .nodeWords) (a .stepWords) ≡ false
   areas-lists a e =
       let r = areas-none a .0 e in
-      lists-none (a .indices) (a .words) (a .steps) .1 (record { entries = r .indices; nodes = r .words; step-words = r .steps })
+      lists-none (a .indices) (a .nodeWords) (a .stepWords) .1 (record { entries = r .indices; nodes = r .words; step-words = r .steps })
 
 -- ---- number 4 of the index entries
 pub some-none : (n : ℕ) (xs : List ℕ) → (someFrom n xs ≡ false) ↔ ((i : ℕ) → i < length xs → getD xs i 0 < n)

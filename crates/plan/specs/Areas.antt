@@ -11,14 +11,14 @@ use Rattle.plan.specs.declared.Plan.{Plan}
 pub record Areas : Type 0 where
   pub indices : List ℕ
   pub coefficients : List Float
-  pub floats : List Float
-  pub words : List ℕ
-  pub steps : List ℕ
+  pub nodeFloats : List Float
+  pub nodeWords : List ℕ
+  pub stepWords : List ℕ
   pub buffers : List Float
 
 abbrev pub areas : List ℕ → List Float → List Float → List ℕ → List ℕ → List Float → Areas
 areas indices coefficients floats words steps buffers =
-    record { indices = indices; coefficients = coefficients; floats = floats; words = words; steps = steps; buffers = buffers }
+    record { indices = indices; coefficients = coefficients; nodeFloats = floats; nodeWords = words; stepWords = steps; buffers = buffers }
 
 -- an area of n places is shorter than `count` entries of `each` places
 abbrev pub shorter : ℕ → ℕ → ℕ → Bool
@@ -29,9 +29,9 @@ abbrev pub shortAreas : Plan → Areas → Bool
 shortAreas p a =
     shorter (length (a .indices)) (p .indices) 1
     || shorter (length (a .coefficients)) (p .coefficients) 1
-    || shorter (length (a .floats)) (p .nodes) nodeFloats
-    || shorter (length (a .words)) (p .nodes) nodeWords
-    || shorter (length (a .steps)) (p .words) 1
+    || shorter (length (a .nodeFloats)) (p .nodes) nodeFloats
+    || shorter (length (a .nodeWords)) (p .nodes) nodeWords
+    || shorter (length (a .stepWords)) (p .words) 1
     || shorter (length (a .buffers)) (p .buffers) (p .block)
 
 -- and of one that is lent the index list, the node words and the step words

@@ -123,4 +123,4 @@ checked p short indices words steps = first (planTests p short indices words ste
 
 -- the plan check as a call of its own, which is lent all six areas
 abbrev pub checkPlan : Plan → Areas → Answer
-checkPlan p a = checked p (shortAreas p a) (a .indices) (a .words) (a .steps)
+checkPlan p a = checked p (shortAreas p a) (a .indices) (a .nodeWords) (a .stepWords)

@@ -36,13 +36,13 @@ pub record Tested (p : Plan) (a : Areas) : Type 0 where
   pub limits : WithinLimits unitLimits p
   pub room : Room p a
   pub list : IndexList p (a .indices)
-  pub ids : idTwice (a .words) (p .nodes) ≡ false
-  pub steps : Passes p (a .indices) (take (p .words) (a .steps)) (p .steps) 0
+  pub ids : idTwice (a .nodeWords) (p .nodes) ≡ false
+  pub steps : Passes p (a .indices) (take (p .words) (a .stepWords)) (p .steps) 0
 
 pub tested : (p : Plan) (a : Areas) → checkPlan p a ≡ Accepted → Tested p a
 unfolding checked
 tested p a e =
-    let t = accepted-none (planTests p (shortAreas p a) (a .indices) (a .words) (a .steps)) Accepted e .0 in
+    let t = accepted-none (planTests p (shortAreas p a) (a .indices) (a .nodeWords) (a .stepWords)) Accepted e .0 in
     let l = limits-none unitLimits p .0 (t .1 .0) in
     let r = areas-none p a .0 (t .1 .1 .0) in
     record {
@@ -51,7 +51,7 @@ tested p a e =
       room = r;
       list = record { room = r .indices; few = l .buffers; entries = t .1 .1 .1 .0 };
       ids = t .1 .1 .1 .1 .0;
-      steps = none-passes p (a .indices) (take (p .words) (a .steps)) (p .steps) 0 1 (t .1 .1 .1 .1 .1);
+      steps = none-passes p (a .indices) (take (p .words) (a .stepWords)) (p .steps) 0 1 (t .1 .1 .1 .1 .1);
     }
 
 -- ---- the channels of the steps, by their spans and by the buffers that those name

@@ -22,9 +22,9 @@ begun b =
       plan = emptyPlan (b .block);
       indices = b .lent .indices;
       coefficients = b .lent .coefficients;
-      floats = b .lent .floats;
-      words = b .lent .words;
-      steps = b .lent .steps;
+      floats = b .lent .nodeFloats;
+      words = b .lent .nodeWords;
+      steps = b .lent .stepWords;
     }
 
 abbrev pub grown : Build → State
