@@ -29,19 +29,19 @@ fn adoption_answer(
     ensures { λ r. ⌜ r ≡ adoptionAnswer (lent nodes (now («node_floats» .entry)) (now («node_words» .entry))) (lent «old_nodes» (now («old_floats» .entry)) (now («old_words» .entry))) (now (pairs .entry)) ramp ⌝ }
 {
     if (nodes > Plan::MAX_NODES) | (old_nodes > Plan::MAX_NODES) {
-        return Answer::Refused(Refusal::of(Refusal::OVER_LIMIT));
+        return Answer::refused(Refusal::OVER_LIMIT);
     }
     if short_nodes(nodes, node_floats, node_words) | short_nodes(old_nodes, old_floats, old_words) {
-        return Answer::Refused(Refusal::of(Refusal::SHORT_AREA));
+        return Answer::refused(Refusal::SHORT_AREA);
     }
     if pairs.len() % 2 != 0 {
-        return Answer::Refused(Refusal::of(Refusal::ODD_LIST));
+        return Answer::refused(Refusal::ODD_LIST);
     }
     if node::any_bad(node_words, nodes) | node::any_bad(old_words, old_nodes) {
-        return Answer::Refused(Refusal::of(Refusal::BAD_NODE));
+        return Answer::refused(Refusal::BAD_NODE);
     }
     if ramp > Node::MAX_RAMP {
-        return Answer::Refused(Refusal::of(Refusal::LONG_RAMP));
+        return Answer::refused(Refusal::LONG_RAMP);
     }
     Answer::Accepted
 }

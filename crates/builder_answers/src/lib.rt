@@ -24,7 +24,7 @@ pub fn new_answer(block: usize) -> Answer
     ensures { λ r. ⌜ r ≡ newAnswer block ⌝ }
 {
     if plan_areas::bad_block(block) {
-        return Answer::Refused(Refusal::of(Refusal::BLOCK_LENGTH));
+        return Answer::refused(Refusal::BLOCK_LENGTH);
     }
     Answer::Accepted
 }
@@ -33,10 +33,10 @@ pub fn buffers_answer(plan: Plan, n: usize, len: usize) -> Answer
     ensures { λ r. ⌜ r ≡ buffersAnswer unitLimits plan n len ⌝ }
 {
     if over(Plan::MAX_BUFFERS, plan.buffers, n) | over(Plan::MAX_INDICES, plan.indices, n) {
-        return Answer::Refused(Refusal::of(Refusal::OVER_LIMIT));
+        return Answer::refused(Refusal::OVER_LIMIT);
     }
     if over(len, plan.indices, n) {
-        return Answer::Refused(Refusal::of(Refusal::SHORT_AREA));
+        return Answer::refused(Refusal::SHORT_AREA);
     }
     Answer::Accepted
 }
@@ -45,10 +45,10 @@ pub fn coefficients_answer(plan: Plan, n: usize, len: usize) -> Answer
     ensures { λ r. ⌜ r ≡ coefficientsAnswer unitLimits plan n len ⌝ }
 {
     if over(Plan::MAX_COEFFICIENTS, plan.coefficients, n) {
-        return Answer::Refused(Refusal::of(Refusal::OVER_LIMIT));
+        return Answer::refused(Refusal::OVER_LIMIT);
     }
     if over(len, plan.coefficients, n) {
-        return Answer::Refused(Refusal::of(Refusal::SHORT_AREA));
+        return Answer::refused(Refusal::SHORT_AREA);
     }
     Answer::Accepted
 }
@@ -59,21 +59,21 @@ pub fn node_answer(plan: Plan, id: u32, n: usize, ramp: u32, floats: usize, word
 {
     let nodes = plan.nodes;
     if over(Plan::MAX_NODES, nodes, 1) {
-        return Answer::Refused(Refusal::of(Refusal::OVER_LIMIT));
+        return Answer::refused(Refusal::OVER_LIMIT);
     }
     if plan_areas::shorter(floats, nodes + 1, Node::FLOATS)
         | plan_areas::shorter(words.len(), nodes + 1, Node::WORDS)
     {
-        return Answer::Refused(Refusal::of(Refusal::SHORT_AREA));
+        return Answer::refused(Refusal::SHORT_AREA);
     }
     if n > Node::MAX {
-        return Answer::Refused(Refusal::of(Refusal::TOO_MANY_VALUES));
+        return Answer::refused(Refusal::TOO_MANY_VALUES);
     }
     if plan_areas::id_among(words, nodes, id) {
-        return Answer::Refused(Refusal::of(Refusal::ID_TAKEN));
+        return Answer::refused(Refusal::ID_TAKEN);
     }
     if ramp > Node::MAX_RAMP {
-        return Answer::Refused(Refusal::of(Refusal::LONG_RAMP));
+        return Answer::refused(Refusal::LONG_RAMP);
     }
     Answer::Accepted
 }
@@ -92,16 +92,16 @@ pub fn step_answer(plan: Plan, words: &[u32], len: usize) -> Answer
     ensures { λ r. ⌜ r ≡ stepAnswer unitLimits plan (now (words .entry)) len ⌝ }
 {
     if over(Plan::MAX_STEPS, plan.steps, 1) {
-        return Answer::Refused(Refusal::of(Refusal::OVER_LIMIT));
+        return Answer::refused(Refusal::OVER_LIMIT);
     }
     if over(len, plan.words, record_length(words)) {
-        return Answer::Refused(Refusal::of(Refusal::SHORT_AREA));
+        return Answer::refused(Refusal::SHORT_AREA);
     }
     let Read::Found(step, _) = plan_reader::read_step(words, 0) else {
-        return Answer::Refused(Refusal::of(Refusal::UNREADABLE_STEP));
+        return Answer::refused(Refusal::UNREADABLE_STEP);
     };
     if plan_steps::step_wide(step) {
-        return Answer::Refused(Refusal::of(Refusal::TOO_MANY_VALUES));
+        return Answer::refused(Refusal::TOO_MANY_VALUES);
     }
     Answer::Accepted
 }
@@ -110,13 +110,13 @@ pub fn finish_answer(plan: Plan, len: usize) -> Answer
     ensures { λ r. ⌜ r ≡ finishAnswer unitLimits plan len ⌝ }
 {
     if plan_areas::bad_block(plan.block) {
-        return Answer::Refused(Refusal::of(Refusal::BLOCK_LENGTH));
+        return Answer::refused(Refusal::BLOCK_LENGTH);
     }
     if over(Plan::MAX_BUFFERS, plan.buffers, 0) {
-        return Answer::Refused(Refusal::of(Refusal::OVER_LIMIT));
+        return Answer::refused(Refusal::OVER_LIMIT);
     }
     if plan_areas::shorter(len, plan.buffers, plan.block) {
-        return Answer::Refused(Refusal::of(Refusal::SHORT_AREA));
+        return Answer::refused(Refusal::SHORT_AREA);
     }
     Answer::Accepted
 }

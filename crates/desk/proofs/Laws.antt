@@ -8,7 +8,6 @@ use lib.ListN.{length}
 use lib.Ieee.{Float, binary64, ofBits}
 use Rattle.refusal.specs.Numbers.{shortArea}
 use Rattle.refusal.specs.Tests.{refusal, outcome}
-use Rattle.refusal.specs.declared.Refusal.{Refusal}
 use Rattle.refusal.specs.declared.Answer.{Answer}
 use Rattle.refusal.specs.declared.Answer.the-variants.{Accepted, Refused}
 use Rattle.format_balance.specs.declared.Stereo.{Stereo}
@@ -38,9 +37,9 @@ module _ {A : Type 0} (d : Draft) (was : Bool) (e : was ≡ refused d) (new old 
 -- ---- the ways out of `width`
 
 module _ (w : Float) (area : List Float) where
-  pub width-short : length area < 4 → {r : Refusal} → r ≡ refusal shortArea 0 → (Refused r ≡ widthAnswer w (length area)) × (area ≡ widthArea w area)
+  pub width-short : length area < 4 → {q : Answer} → q ≡ Refused (refusal shortArea 0) → (q ≡ widthAnswer w (length area)) × (area ≡ widthArea w area)
   unfolding widthAnswer widthArea
-  width-short h e = (rw (lt-ltb _ _ h) (ap Refused e), rw (lt-ltb _ _ h))
+  width-short h e = (rw (lt-ltb _ _ h) e, rw (lt-ltb _ _ h))
 
   pub width-asked : 4 ≤ length area → {s : Stereo} → stereoMatrix w (ofBits binary64 0) ≡ s → (answerOf s ≡ widthAnswer w (length area)) × (stored s area ≡ widthArea w area)
   unfolding widthAnswer widthArea

@@ -27,7 +27,7 @@ pub fn width(w: f64, out: &mut [f32]) -> Answer
     ensures { λ r. ⌜ (r ≡ widthAnswer w (length (now (out .entry)))) × (now (out .exit) ≡ widthArea w (now (out .entry))) ⌝ }
 {
     if out.len() < 4 {
-        return Answer::Refused(Refusal::of(Refusal::SHORT_AREA));
+        return Answer::refused(Refusal::SHORT_AREA);
     }
     match format_balance::stereo_matrix(w, 0.0) {
         Stereo::Refused(r) => Answer::Refused(r),

@@ -112,14 +112,14 @@ pub fn balance_of(format: u32, b: f64, out: &mut [f32]) -> Answer
     ensures { λ r. ⌜ (r ≡ balanceAnswer format b (length (now (out .entry)))) × (now (out .exit) ≡ balanceArea format b (now (out .entry))) ⌝ }
 {
     if Format::COUNT <= format {
-        return Answer::Refused(Refusal::of(Refusal::NO_FORMAT));
+        return Answer::refused(Refusal::NO_FORMAT);
     }
     if !finite(b) {
-        return Answer::Refused(Refusal::of(Refusal::OUT_OF_RANGE));
+        return Answer::refused(Refusal::OUT_OF_RANGE);
     }
     let n = Format::channels(format);
     if out.len() < n {
-        return Answer::Refused(Refusal::of(Refusal::SHORT_AREA));
+        return Answer::refused(Refusal::SHORT_AREA);
     }
     let left = rounding::to_f32(left_gain(b));
     let right = rounding::to_f32(right_gain(b));

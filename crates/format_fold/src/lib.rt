@@ -238,19 +238,19 @@ pub fn width_matrix(
     ensures { λ r. ⌜ (r ≡ widthAnswer src dst gains (length (now (out .entry)))) × (now (out .exit) ≡ widthArea src dst gains normalise (now (out .entry))) ⌝ }
 {
     if Format::COUNT <= src {
-        return Answer::Refused(Refusal::of(Refusal::NO_FORMAT));
+        return Answer::refused(Refusal::NO_FORMAT);
     }
     if Format::COUNT <= dst {
-        return Answer::Refused(Refusal::of(Refusal::NO_FORMAT));
+        return Answer::refused(Refusal::NO_FORMAT);
     }
     if !gains_in_range(gains) {
-        return Answer::Refused(Refusal::of(Refusal::OUT_OF_RANGE));
+        return Answer::refused(Refusal::OUT_OF_RANGE);
     }
     let columns = Format::channels(src);
     let rows = Format::channels(dst);
     let n = rows * columns;
     if out.len() < n {
-        return Answer::Refused(Refusal::of(Refusal::SHORT_AREA));
+        return Answer::refused(Refusal::SHORT_AREA);
     }
     put(
         normalised(mapping(src, dst, gains), rows, columns, normalise),

@@ -92,8 +92,8 @@ module _ {A : Type 0} (answer : Answer) (new old : List A) where
   refused-keeps r e = outcome-refused answer new (λ _. old) r e
 
   -- the two ways out of a call that answers an `Answer` and was lent one area
-  pub returned-refused : (r q : Refusal) → answer ≡ Refused r → q ≡ r → (Refused q ≡ answer) × (old ≡ areaAfter answer new old)
-  returned-refused r q e p = (ap Refused p ∙ sym e, sym (refused-keeps r e))
+  pub returned-refused : (r : Refusal) (q : Answer) → answer ≡ Refused r → q ≡ Refused r → (q ≡ answer) × (old ≡ areaAfter answer new old)
+  returned-refused r q e p = (p ∙ sym e, sym (refused-keeps r e))
 
   pub returned-accepted : (last : List A) → answer ≡ Accepted → last ≡ new → (Accepted ≡ answer) × (last ≡ areaAfter answer new old)
   returned-accepted last e p = (sym e, p ∙ sym (outcome-accepted answer new (λ _. old) e))

@@ -69,3 +69,12 @@ impl Refusal {
         Refusal { number, place }
     }
 }
+
+impl Answer {
+    // The refusal of a call that is at no step.
+    pub fn refused(number: u32) -> Answer
+        ensures { λ r. ⌜ r ≡ Answer.Refused (refusal number 0) ⌝ }
+    {
+        Answer::Refused(Refusal::of(number))
+    }
+}

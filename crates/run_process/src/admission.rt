@@ -38,13 +38,13 @@ pub fn admission(
         Counted::Channels(n) => n,
     };
     if node::any_bad(words, plan.nodes) {
-        return Answer::Refused(Refusal::of(Refusal::BAD_NODE));
+        return Answer::refused(Refusal::BAD_NODE);
     }
     if input::directory_bad(directory, samples.len()) {
-        return Answer::Refused(Refusal::of(Refusal::BAD_DIRECTORY));
+        return Answer::refused(Refusal::BAD_DIRECTORY);
     }
     if plan_areas::shorter(output.len(), channels, plan.block) {
-        return Answer::Refused(Refusal::of(Refusal::SHORT_OUTPUT));
+        return Answer::refused(Refusal::SHORT_OUTPUT);
     }
     Answer::Accepted
 }

@@ -14,24 +14,24 @@ fn setting_answer(count: usize, id: u32, ramp: u32, floats: usize, words: &[u32]
     ensures { λ r. ⌜ r ≡ settingAnswer count id ramp floats (now (words .entry)) ⌝ }
 {
     if count > Plan::MAX_NODES {
-        return Answer::Refused(Refusal::of(Refusal::OVER_LIMIT));
+        return Answer::refused(Refusal::OVER_LIMIT);
     }
     if plan_areas::shorter(floats, count, Node::FLOATS)
         | plan_areas::shorter(words.len(), count, Node::WORDS)
     {
-        return Answer::Refused(Refusal::of(Refusal::SHORT_AREA));
+        return Answer::refused(Refusal::SHORT_AREA);
     }
     if node::any_bad(words, count) {
-        return Answer::Refused(Refusal::of(Refusal::BAD_NODE));
+        return Answer::refused(Refusal::BAD_NODE);
     }
     if plan_areas::id_twice(words, count) {
-        return Answer::Refused(Refusal::of(Refusal::ID_TAKEN));
+        return Answer::refused(Refusal::ID_TAKEN);
     }
     if ramp > Node::MAX_RAMP {
-        return Answer::Refused(Refusal::of(Refusal::LONG_RAMP));
+        return Answer::refused(Refusal::LONG_RAMP);
     }
     if !plan_areas::id_among(words, count, id) {
-        return Answer::Refused(Refusal::of(Refusal::UNKNOWN_ID));
+        return Answer::refused(Refusal::UNKNOWN_ID);
     }
     Answer::Accepted
 }

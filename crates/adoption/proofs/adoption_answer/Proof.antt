@@ -1,8 +1,7 @@
 -- `adoption::adoption_answer` meets its contract. Assumes nothing.
-use mathlib.Core.Path.{_≡_, sym, ap, _∙_}
+use mathlib.Core.Path.{_≡_, sym, _∙_}
 use mathlib.Core.Bool.{false, _||_}
 use native.Mathlib.Omega.{arith}
-use Rattle.refusal.specs.declared.Answer.the-variants.{Refused}
 use Rattle.node.specs.Areas.{Room}
 use Rattle.plan.proofs.Bools.{or-none, or-is}
 use Rattle.adoption.specs.Adoption.{Lent, lent, overNodes, shortNodes, badNodes}
@@ -44,13 +43,13 @@ start4 c = start2 (c .before .before .before .before)
 not-14 : (c : tie.Else4) → (let s = start4 c in (badNodes (new s) || badNodes (old s)) ≡ false)
 not-14 c = or-is (c .before .before .any-bad .ensures) (c .before .any-bad2 .ensures) (c .if4 .left)
 
-of-requires : tie.Need-of-requires
-of-requires c κs = search needs
+refused-requires : tie.Need-refused-requires
+refused-requires c κs = search needs
 
 returns : tie.Need-returns
 returns c =
     let s = c .before .before .before .before .before .before .before in
-    ap Refused (c .of .ensures) ∙ sym (by-5 (new s) (old s) (s .args .pairs .now) (s .args .ramp) (c .before .if1 .taken))
+    c .refused .ensures ∙ sym (by-5 (new s) (old s) (s .args .pairs .now) (s .args .ramp) (c .before .if1 .taken))
 
 short-nodes-requires : tie.Need-short-nodes-requires
 short-nodes-requires c κs = search needs
@@ -58,24 +57,24 @@ short-nodes-requires c κs = search needs
 short-nodes-requires-2 : tie.Need-short-nodes-requires-2
 short-nodes-requires-2 c κs = search needs
 
-of-requires-2 : tie.Need-of-requires-2
-of-requires-2 c κs = search needs
+refused-requires-2 : tie.Need-refused-requires-2
+refused-requires-2 c κs = search needs
 
 returns-2 : tie.Need-returns-2
 returns-2 c =
     let e = c .before .before .before .before in
     let s = start1 e in
     let t = or-is (c .before .before .before .short-nodes .ensures) (c .before .before .short-nodes2 .ensures) (c .before .if2 .taken) in
-    ap Refused (c .of2 .ensures) ∙ sym (by-2 (new s) (old s) (s .args .pairs .now) (s .args .ramp) (not-5 e) t)
+    c .refused2 .ensures ∙ sym (by-2 (new s) (old s) (s .args .pairs .now) (s .args .ramp) (not-5 e) t)
 
-of-requires-3 : tie.Need-of-requires-3
-of-requires-3 c κs = search needs
+refused-requires-3 : tie.Need-refused-requires-3
+refused-requires-3 c κs = search needs
 
 returns-3 : tie.Need-returns-3
 returns-3 c =
     let e = c .before .before in
     let s = start2 e in
-    ap Refused (c .of3 .ensures)
+    c .refused3 .ensures
     ∙ sym (by-11 (new s) (old s) (s .args .pairs .now) (s .args .ramp) (not-5 (e .before .before .before)) (not-2 e) (c .before .if3 .taken))
 
 any-bad-requires : tie.Need-any-bad-requires
@@ -84,8 +83,8 @@ any-bad-requires c κs = let r = rooms (c .before) in omega (arith, r .0 .1, r .
 any-bad-requires-2 : tie.Need-any-bad-requires-2
 any-bad-requires-2 c κs = let r = rooms (c .before .before) in omega (arith, r .0 .1, r .1 .1)
 
-of-requires-4 : tie.Need-of-requires-4
-of-requires-4 c κs = search needs
+refused-requires-4 : tie.Need-refused-requires-4
+refused-requires-4 c κs = search needs
 
 returns-4 : tie.Need-returns-4
 returns-4 c =
@@ -93,11 +92,11 @@ returns-4 c =
     let e = o .before in
     let s = start2 e in
     let t = or-is (c .before .before .before .any-bad .ensures) (c .before .before .any-bad2 .ensures) (c .before .if4 .taken) in
-    ap Refused (c .of4 .ensures)
+    c .refused4 .ensures
     ∙ sym (by-14 (new s) (old s) (s .args .pairs .now) (s .args .ramp) (not-5 (e .before .before .before)) (not-2 e) (o .if3 .left) t)
 
-of-requires-5 : tie.Need-of-requires-5
-of-requires-5 c κs = search needs
+refused-requires-5 : tie.Need-refused-requires-5
+refused-requires-5 c κs = search needs
 
 returns-5 : tie.Need-returns-5
 returns-5 c =
@@ -105,7 +104,7 @@ returns-5 c =
     let o = b .before .before .before in
     let e = o .before in
     let s = start2 e in
-    ap Refused (c .of5 .ensures)
+    c .refused5 .ensures
     ∙ sym (by-10 (new s) (old s) (s .args .pairs .now) (s .args .ramp) (not-5 (e .before .before .before)) (not-2 e) (o .if3 .left) (not-14 b) (c .before .if5 .taken))
 
 returns-6 : tie.Need-returns-6
@@ -120,18 +119,18 @@ pub adoption-answer-spec : {M : Type 1} → statement M
 adoption-answer-spec =
     tie.close
     (tie.spec
-    of-requires
+    refused-requires
     returns
     short-nodes-requires
     short-nodes-requires-2
-    of-requires-2
+    refused-requires-2
     returns-2
-    of-requires-3
+    refused-requires-3
     returns-3
     any-bad-requires
     any-bad-requires-2
-    of-requires-4
+    refused-requires-4
     returns-4
-    of-requires-5
+    refused-requires-5
     returns-5
     returns-6)

@@ -1,9 +1,8 @@
 -- `builder_answers::buffers_answer` meets its contract. Assumes nothing.
-use mathlib.Core.Path.{_≡_, sym, ap, _∙_}
+use mathlib.Core.Path.{_≡_, sym, _∙_}
 use mathlib.Core.Bool.{true, false}
-use Rattle.refusal.specs.declared.Answer.the-variants.{Refused}
-use Rattle.plan.specs.Limits.{unitLimits}
 use Rattle.plan.proofs.Bools.{or-is}
+use Rattle.plan.specs.Limits.{unitLimits}
 use Rattle.builder.specs.Growth.{growsOver, growsPast, buffersGrowth}
 use Rattle.builder.specs.Calls.{buffersAnswer, lentIndices}
 use Rattle.builder.proofs.Uses.{buffers-over, buffers-past}
@@ -17,8 +16,8 @@ over-requires c κs = search needs
 over-requires-2 : tie.Need-over-requires-2
 over-requires-2 c κs = search needs
 
-of-requires : tie.Need-of-requires
-of-requires c κs = search needs
+refused-requires : tie.Need-refused-requires
+refused-requires c κs = search needs
 
 returns : tie.Need-returns
 unfolding buffersAnswer
@@ -26,13 +25,13 @@ returns c =
     let a = c .before .before .before .before .args in
     let t : growsOver unitLimits (a .plan) (buffersGrowth (a .n)) ≡ true =
     buffers-over unitLimits (a .plan) (a .n) (a .len) ∙ or-is (c .before .before .before .over .ensures) (c .before .before .over2 .ensures) (c .before .if1 .taken) in
-    rw t (ap Refused (c .of .ensures))
+    rw t (c .refused .ensures)
 
 over-requires-3 : tie.Need-over-requires-3
 over-requires-3 c κs = search needs
 
-of-requires-2 : tie.Need-of-requires-2
-of-requires-2 c κs = search needs
+refused-requires-2 : tie.Need-refused-requires-2
+refused-requires-2 c κs = search needs
 
 returns-2 : tie.Need-returns-2
 unfolding buffersAnswer
@@ -43,7 +42,7 @@ returns-2 c =
     ∙ or-is (c .before .before .before .before .before .over .ensures) (c .before .before .before .before .over2 .ensures) (c .before .before .before .if1 .left) in
     let s : growsPast (a .plan) (buffersGrowth (a .n)) (lentIndices (a .len)) ≡ true =
     buffers-past unitLimits (a .plan) (a .n) (a .len) ∙ sym (c .before .before .over3 .ensures) ∙ c .before .if2 .taken in
-    rw (t, s) (ap Refused (c .of2 .ensures))
+    rw (t, s) (c .refused2 .ensures)
 
 returns-3 : tie.Need-returns-3
 unfolding buffersAnswer
@@ -62,9 +61,9 @@ buffers-answer-spec =
     (tie.spec
     over-requires
     over-requires-2
-    of-requires
+    refused-requires
     returns
     over-requires-3
-    of-requires-2
+    refused-requires-2
     returns-2
     returns-3)

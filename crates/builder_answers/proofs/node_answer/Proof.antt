@@ -1,15 +1,14 @@
 -- `builder_answers::node_answer` meets its contract. Assumes nothing.
-use mathlib.Core.Path.{_≡_, sym, ap, _∙_}
+use mathlib.Core.Path.{_≡_, sym, _∙_}
 use mathlib.Core.Bool.{true, false}
 use Prim.Native.Nat.{_+_, _*_}
 use native.Mathlib.Omega.{arith}
 use borrow.Author.Tests.{ltb-false, lt-ltb, le-ltb}
 use lib.ListN.{length}
-use Rattle.refusal.specs.declared.Answer.the-variants.{Refused}
 use Rattle.node.specs.Sizes.{nodeFloats, nodeWords}
+use Rattle.plan.proofs.Bools.{or-none, or-is}
 use Rattle.plan.specs.Limits.{unitLimits}
 use Rattle.plan.specs.Areas.{shorter}
-use Rattle.plan.proofs.Bools.{or-none, or-is}
 use Rattle.builder.specs.Growth.{growsOver, growsPast, nodeGrowth}
 use Rattle.builder.specs.Calls.{nodeAnswer, lentNodes}
 use Rattle.builder.proofs.Uses.{node-over, node-past}
@@ -29,14 +28,14 @@ early c =
 over-requires : tie.Need-over-requires
 over-requires c κs = search needs
 
-of-requires : tie.Need-of-requires
-of-requires c κs = search needs
+refused-requires : tie.Need-refused-requires
+refused-requires c κs = search needs
 
 returns : tie.Need-returns
 unfolding nodeAnswer
 returns c =
     let t : growsOver unitLimits (c .before .before .before .before .args .plan) nodeGrowth ≡ true = node-over unitLimits (c .before .before .before .before .args .plan) 0 0 ∙ sym (c .before .before .over .ensures) ∙ c .before .if1 .taken in
-    rw t (ap Refused (c .of .ensures))
+    rw t (c .refused .ensures)
 
 add-shorter : tie.Need-add-shorter
 add-shorter c =
@@ -54,8 +53,8 @@ add-shorter-2 c =
 shorter-requires-2 : tie.Need-shorter-requires-2
 shorter-requires-2 c κs = search needs
 
-of-requires-2 : tie.Need-of-requires-2
-of-requires-2 c κs = search needs
+refused-requires-2 : tie.Need-refused-requires-2
+refused-requires-2 c κs = search needs
 
 returns-2 : tie.Need-returns-2
 unfolding nodeAnswer
@@ -64,16 +63,16 @@ returns-2 c =
     let t : growsOver unitLimits (a .plan) nodeGrowth ≡ false = node-over unitLimits (a .plan) 0 0 ∙ sym (c .before .before .before .before .before .over .ensures) ∙ c .before .before .before .before .if1 .left in
     let s : growsPast (a .plan) nodeGrowth (lentNodes (a .floats) (length (a .words .now))) ≡ true =
     node-past unitLimits (a .plan) 0 (a .floats) (length (a .words .now)) ∙ or-is (c .before .before .before .shorter .ensures) (c .before .before .shorter2 .ensures) (c .before .if2 .taken) in
-    rw (t, s) (ap Refused (c .of2 .ensures))
+    rw (t, s) (c .refused2 .ensures)
 
-of-requires-3 : tie.Need-of-requires-3
-of-requires-3 c κs = search needs
+refused-requires-3 : tie.Need-refused-requires-3
+refused-requires-3 c κs = search needs
 
 returns-3 : tie.Need-returns-3
 unfolding nodeAnswer
 returns-3 c =
     let e = early (c .before .before) in
-    rw (e .0, e .1, lt-ltb _ _ (c .before .if3 .taken)) (ap Refused (c .of3 .ensures))
+    rw (e .0, e .1, lt-ltb _ _ (c .before .if3 .taken)) (c .refused3 .ensures)
 
 id-among-requires : tie.Need-id-among-requires
 id-among-requires c κs =
@@ -82,24 +81,24 @@ id-among-requires c κs =
     (or-none (shorter (a .floats) (a .plan .nodes + 1) nodeFloats) (shorter (length (a .words .now)) (a .plan .nodes + 1) nodeWords) (sym (node-past unitLimits (a .plan) 0 (a .floats) (length (a .words .now))) ∙ early (c .before) .1) .1) in
     omega arith
 
-of-requires-4 : tie.Need-of-requires-4
-of-requires-4 c κs = search needs
+refused-requires-4 : tie.Need-refused-requires-4
+refused-requires-4 c κs = search needs
 
 returns-4 : tie.Need-returns-4
 unfolding nodeAnswer
 returns-4 c =
     let e = early (c .before .before .before .before) in
-    rw (e .0, e .1, le-ltb _ _ (c .before .before .before .if3 .left), sym (c .before .before .id-among .ensures) ∙ c .before .if4 .taken) (ap Refused (c .of4 .ensures))
+    rw (e .0, e .1, le-ltb _ _ (c .before .before .before .if3 .left), sym (c .before .before .id-among .ensures) ∙ c .before .if4 .taken) (c .refused4 .ensures)
 
-of-requires-5 : tie.Need-of-requires-5
-of-requires-5 c κs = search needs
+refused-requires-5 : tie.Need-refused-requires-5
+refused-requires-5 c κs = search needs
 
 returns-5 : tie.Need-returns-5
 unfolding nodeAnswer
 returns-5 c =
     let e = early (c .before .before .before .before .before) in
     rw (e .0, e .1, le-ltb _ _ (c .before .before .before .before .if3 .left), sym (c .before .before .before .id-among .ensures) ∙ c .before .before .if4 .left, lt-ltb _ _ (c .before .if5 .taken))
-    (ap Refused (c .of5 .ensures))
+    (c .refused5 .ensures)
 
 returns-6 : tie.Need-returns-6
 unfolding nodeAnswer
@@ -112,19 +111,19 @@ node-answer-spec =
     tie.close
     (tie.spec
     over-requires
-    of-requires
+    refused-requires
     returns
     add-shorter
     shorter-requires
     add-shorter-2
     shorter-requires-2
-    of-requires-2
+    refused-requires-2
     returns-2
-    of-requires-3
+    refused-requires-3
     returns-3
     id-among-requires
-    of-requires-4
+    refused-requires-4
     returns-4
-    of-requires-5
+    refused-requires-5
     returns-5
     returns-6)

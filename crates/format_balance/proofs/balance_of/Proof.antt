@@ -30,33 +30,33 @@ written : (f n : ℕ) (b x y l r : Float) (out last : List Float) → x ≡ left
 unfolding balanceOf
 written f n b x y l r out last p q p′ q′ e h = cc
 
-of-requires : tie.Need-of-requires
-of-requires c κs = search needs
+refused-requires : tie.Need-refused-requires
+refused-requires c κs = search needs
 
 returns : tie.Need-returns
 unfolding balanceArea
 returns c =
     let a = c .before .before .before .args in
-    returned-refused (answer (a .format) (a .b) (a .out .now)) (new (a .format) (a .b) (a .out .now)) (a .out .now) (refusal noFormat 0) _ (balance-16 (a .format) (a .b) (length (a .out .now)) (c .before .if1 .taken)) (c .of .ensures)
+    returned-refused (answer (a .format) (a .b) (a .out .now)) (new (a .format) (a .b) (a .out .now)) (a .out .now) (refusal noFormat 0) _ (balance-16 (a .format) (a .b) (length (a .out .now)) (c .before .if1 .taken)) (c .refused .ensures)
 
 finite-requires : tie.Need-finite-requires
 finite-requires c κs = search needs
 
-of-requires-2 : tie.Need-of-requires-2
-of-requires-2 c κs = search needs
+refused-requires-2 : tie.Need-refused-requires-2
+refused-requires-2 c κs = search needs
 
 returns-2 : tie.Need-returns-2
 unfolding balanceArea
 returns-2 c =
     let a = c .before .before .before .before .before .args in
     returned-refused (answer (a .format) (a .b) (a .out .now)) (new (a .format) (a .b) (a .out .now)) (a .out .now) (refusal outOfRange 0) _
-    (balance-17 (a .format) (a .b) (length (a .out .now)) (c .before .before .before .if1 .left) (ap not (sym (c .before .before .finite .ensures)) ∙ c .before .if2 .taken)) (c .of2 .ensures)
+    (balance-17 (a .format) (a .b) (length (a .out .now)) (c .before .before .before .if1 .left) (ap not (sym (c .before .before .finite .ensures)) ∙ c .before .if2 .taken)) (c .refused2 .ensures)
 
 channels-requires : tie.Need-channels-requires
 channels-requires c κs = search needs
 
-of-requires-3 : tie.Need-of-requires-3
-of-requires-3 c κs = search needs
+refused-requires-3 : tie.Need-refused-requires-3
+refused-requires-3 c κs = search needs
 
 returns-3 : tie.Need-returns-3
 unfolding balanceArea
@@ -64,7 +64,7 @@ returns-3 c =
     let a = c .before .before .before .before .before .before .before .args in
     let e = ap not (sym (c .before .before .before .before .finite .ensures)) ∙ c .before .before .before .if2 .left in
     let l : length (a .out .now) < channels (a .format) = omega (arith, c .before .before .channels .ensures) in
-    returned-refused (answer (a .format) (a .b) (a .out .now)) (new (a .format) (a .b) (a .out .now)) (a .out .now) (refusal shortArea 0) _ (balance-2 (a .format) (a .b) (length (a .out .now)) (c .before .before .before .before .before .if1 .left) e l) (c .of3 .ensures)
+    returned-refused (answer (a .format) (a .b) (a .out .now)) (new (a .format) (a .b) (a .out .now)) (a .out .now) (refusal shortArea 0) _ (balance-2 (a .format) (a .b) (length (a .out .now)) (c .before .before .before .before .before .if1 .left) e l) (c .refused3 .ensures)
 
 left-gain-requires : tie.Need-left-gain-requires
 left-gain-requires c κs = search needs
@@ -105,13 +105,13 @@ pub balance-of-spec : {M : Type 1} → statement M
 balance-of-spec =
     tie.close
     (tie.spec
-    of-requires
+    refused-requires
     returns
     finite-requires
-    of-requires-2
+    refused-requires-2
     returns-2
     channels-requires
-    of-requires-3
+    refused-requires-3
     returns-3
     left-gain-requires
     to-f32-requires

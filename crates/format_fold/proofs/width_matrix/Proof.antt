@@ -43,31 +43,31 @@ few f e = omega (arith, channels-le f)
 size : {n k : ℕ} (f h : ℕ) → n ≡ channels f → k ≡ channels h → n * k ≤ 144
 size {n} {k} f h e d = places n k (few f e) (few h d)
 
-of-requires : tie.Need-of-requires
-of-requires c κs = search needs
+refused-requires : tie.Need-refused-requires
+refused-requires c κs = search needs
 
 returns : tie.Need-returns
 unfolding widthArea
 returns c =
     let a = c .before .before .before .args in
     returned-refused (answer (a .src) (a .dst) (a .gains) (a .out .now)) (new (a .src) (a .dst) (a .gains) (a .normalise) (a .out .now)) (a .out .now)
-    (refusal noFormat 0) _ (width-src (a .src) (a .dst) (a .gains) (length (a .out .now)) (c .before .if1 .taken)) (c .of .ensures)
+    (refusal noFormat 0) _ (width-src (a .src) (a .dst) (a .gains) (length (a .out .now)) (c .before .if1 .taken)) (c .refused .ensures)
 
-of-requires-2 : tie.Need-of-requires-2
-of-requires-2 c κs = search needs
+refused-requires-2 : tie.Need-refused-requires-2
+refused-requires-2 c κs = search needs
 
 returns-2 : tie.Need-returns-2
 unfolding widthArea
 returns-2 c =
     let a = c .before .before .before .before .args in
     returned-refused (answer (a .src) (a .dst) (a .gains) (a .out .now)) (new (a .src) (a .dst) (a .gains) (a .normalise) (a .out .now)) (a .out .now)
-    (refusal noFormat 0) _ (width-dst (a .src) (a .dst) (a .gains) (length (a .out .now)) (c .before .before .if1 .left) (c .before .if2 .taken)) (c .of2 .ensures)
+    (refusal noFormat 0) _ (width-dst (a .src) (a .dst) (a .gains) (length (a .out .now)) (c .before .before .if1 .left) (c .before .if2 .taken)) (c .refused2 .ensures)
 
 gains-in-range-requires : tie.Need-gains-in-range-requires
 gains-in-range-requires c κs = search needs
 
-of-requires-3 : tie.Need-of-requires-3
-of-requires-3 c κs = search needs
+refused-requires-3 : tie.Need-refused-requires-3
+refused-requires-3 c κs = search needs
 
 returns-3 : tie.Need-returns-3
 unfolding widthArea
@@ -75,7 +75,7 @@ returns-3 c =
     let a = c .before .before .before .before .before .before .args in
     let g = sym (c .before .before .gains-in-range .ensures) ∙ not-true _ (c .before .if3 .taken) in
     returned-refused (answer (a .src) (a .dst) (a .gains) (a .out .now)) (new (a .src) (a .dst) (a .gains) (a .normalise) (a .out .now)) (a .out .now)
-    (refusal outOfRange 0) _ (width-17 (a .src) (a .dst) (a .gains) (length (a .out .now)) (c .before .before .before .before .if1 .left) (c .before .before .before .if2 .left) g) (c .of3 .ensures)
+    (refusal outOfRange 0) _ (width-17 (a .src) (a .dst) (a .gains) (length (a .out .now)) (c .before .before .before .before .if1 .left) (c .before .before .before .if2 .left) g) (c .refused3 .ensures)
 
 channels-requires : tie.Need-channels-requires
 channels-requires c κs = search needs
@@ -88,8 +88,8 @@ mul-n c =
     let a = c .before .before .before .before .before .before .before .args in
     omega (arith, size (a .dst) (a .src) (c .channels2 .ensures) (c .before .channels .ensures))
 
-of-requires-4 : tie.Need-of-requires-4
-of-requires-4 c κs = search needs
+refused-requires-4 : tie.Need-refused-requires-4
+refused-requires-4 c κs = search needs
 
 returns-4 : tie.Need-returns-4
 unfolding widthArea
@@ -101,7 +101,7 @@ returns-4 c =
     cc (c .before .before .channels2 .ensures, c .before .before .before .channels .ensures) in
     let l : length (a .out .now) < channels (a .dst) * channels (a .src) = omega (arith, e, c .before .if4 .taken) in
     returned-refused (answer (a .src) (a .dst) (a .gains) (a .out .now)) (new (a .src) (a .dst) (a .gains) (a .normalise) (a .out .now)) (a .out .now)
-    (refusal shortArea 0) _ (width-2 (a .src) (a .dst) (a .gains) (length (a .out .now)) (t .before .before .before .if1 .left) (t .before .before .if2 .left) g l) (c .of4 .ensures)
+    (refusal shortArea 0) _ (width-2 (a .src) (a .dst) (a .gains) (length (a .out .now)) (t .before .before .before .if1 .left) (t .before .before .if2 .left) g l) (c .refused4 .ensures)
 
 mapping-requires : tie.Need-mapping-requires
 mapping-requires c κs = search needs
@@ -142,17 +142,17 @@ pub width-matrix-spec : {M : Type 1} → statement M
 width-matrix-spec =
     tie.close
     (tie.spec
-    of-requires
+    refused-requires
     returns
-    of-requires-2
+    refused-requires-2
     returns-2
     gains-in-range-requires
-    of-requires-3
+    refused-requires-3
     returns-3
     channels-requires
     channels-requires-2
     mul-n
-    of-requires-4
+    refused-requires-4
     returns-4
     mapping-requires
     normalised-requires

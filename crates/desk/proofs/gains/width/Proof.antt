@@ -9,13 +9,13 @@ use borrow.Author.Needs.{needs}
 use Rattle.desk.proofs.gains.width.Statement.{statement}
 use Rattle.desk.proofs.gains.width.Tie as tie
 
-of-requires : tie.Need-of-requires
-of-requires c κs = search needs
+refused-requires : tie.Need-refused-requires
+refused-requires c κs = search needs
 
 returns : tie.Need-returns
 returns c =
     let a = c .before .before .before .args in
-    width-short (a .w) (a .out .now) (c .before .if1 .taken) (c .of .ensures)
+    width-short (a .w) (a .out .now) (c .before .if1 .taken) (c .refused .ensures)
 
 stereo-matrix-requires : tie.Need-stereo-matrix-requires
 stereo-matrix-requires c κs = search needs
@@ -77,7 +77,7 @@ pub width-spec : {M : Type 1} → statement M
 width-spec =
     tie.close
     (tie.spec
-    of-requires
+    refused-requires
     returns
     stereo-matrix-requires
     enum-known-r

@@ -1,10 +1,10 @@
 -- `run_process::admission::admission` meets its contract. Assumes nothing.
-use mathlib.Core.Path.{_≡_, sym, ap, _∙_}
+use mathlib.Core.Path.{_≡_, sym, _∙_}
 use mathlib.Core.Bool.{false}
 use Prim.Native.Nat.{_*_}
 use lib.ListN.{length}
 use borrow.Author.Tests.{ltb-true, ltb-false}
-use Rattle.refusal.specs.declared.Answer.the-variants.{Accepted, Refused}
+use Rattle.refusal.specs.declared.Answer.the-variants.{Accepted}
 use Rattle.node.specs.Areas.{someBad}
 use Rattle.plan.specs.Check.{checkPlan}
 use Rattle.plan.specs.Sound.{stepsOf}
@@ -58,39 +58,39 @@ enum-known-counted-2 c = search needs
 any-bad-requires : tie.Need-any-bad-requires
 any-bad-requires c κs = taken c .room .words
 
-of-requires : tie.Need-of-requires
-of-requires c κs = search needs
+refused-requires : tie.Need-refused-requires
+refused-requires c κs = search needs
 
 returns-2 : tie.Need-returns-2
 returns-2 c =
     let t = c .before .before .before in
     let s = start (t .before .before .before) in
-    ap Refused (c .of .ensures) ∙ sym (by-14 (g s) (st s) (told t .0) (sym (c .before .before .any-bad .ensures) ∙ c .before .if1 .taken))
+    c .refused .ensures ∙ sym (by-14 (g s) (st s) (told t .0) (sym (c .before .before .any-bad .ensures) ∙ c .before .if1 .taken))
 
 directory-bad-requires : tie.Need-directory-bad-requires
 directory-bad-requires c κs = search needs
 
-of-requires-2 : tie.Need-of-requires-2
-of-requires-2 c κs = search needs
+refused-requires-2 : tie.Need-refused-requires-2
+refused-requires-2 c κs = search needs
 
 returns-3 : tie.Need-returns-3
 returns-3 c =
     let t = c .before .before .before .before .before in
     let s = start (t .before .before .before) in
-    ap Refused (c .of2 .ensures) ∙ sym (by-12 (g s) (st s) (told t .0) (no-14 (c .before .before .before)) (sym (c .before .before .directory-bad .ensures) ∙ c .before .if2 .taken))
+    c .refused2 .ensures ∙ sym (by-12 (g s) (st s) (told t .0) (no-14 (c .before .before .before)) (sym (c .before .before .directory-bad .ensures) ∙ c .before .if2 .taken))
 
 shorter-requires : tie.Need-shorter-requires
 shorter-requires c κs = search needs
 
-of-requires-3 : tie.Need-of-requires-3
-of-requires-3 c κs = search needs
+refused-requires-3 : tie.Need-refused-requires-3
+refused-requires-3 c κs = search needs
 
 returns-4 : tie.Need-returns-4
 returns-4 c =
     let t = c .before .before .before .before .before .before .before in
     let s = start (t .before .before .before) in
     let h = ltb-true (length (s .args .output .now)) (t .before .counted2 .given .0 .0 * s .args .plan .block) (sym (c .before .before .shorter .ensures) ∙ c .before .if3 .taken) in
-    ap Refused (c .of3 .ensures)
+    c .refused3 .ensures
     ∙ sym (by-13 (g s) (st s) (told t .0) (no-14 (c .before .before .before .before .before)) (no-12 (c .before .before .before)) (rw (told t .1) at h))
 
 returns-5 : tie.Need-returns-5
@@ -109,12 +109,12 @@ admission-spec =
     returns
     enum-known-counted-2
     any-bad-requires
-    of-requires
+    refused-requires
     returns-2
     directory-bad-requires
-    of-requires-2
+    refused-requires-2
     returns-3
     shorter-requires
-    of-requires-3
+    refused-requires-3
     returns-4
     returns-5)
