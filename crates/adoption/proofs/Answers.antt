@@ -6,6 +6,7 @@ use Prim.Native.Nat.{ℕ, _*_, _%_, _<_, _≤_}
 use lib.ListN.{length}
 use lib.Dec.{eqb}
 use borrow.Author.Tests.{ltb-false, eqb-true, lt-ltb, le-ltb, eq-eqb, ne-eqb, not-false}
+use Rattle.lists.proofs.Bools.{or-none}
 use Rattle.refusal.specs.Numbers.{shortArea, overLimit, longRamp, oddList, badNode}
 use Rattle.refusal.specs.Tests.{refusal}
 use Rattle.refusal.specs.declared.Refusal.{Refusal}
@@ -16,7 +17,6 @@ use Rattle.node.specs.Sizes.{nodeFloats, nodeWords, maxRamp}
 use Rattle.node.specs.Areas.{Room}
 use Rattle.plan.specs.Limits.{unitLimits}
 use Rattle.plan.specs.Areas.{shorter}
-use Rattle.plan.proofs.Bools.{or-none}
 use Rattle.adoption.specs.Adoption.{Lent, overNodes, shortNodes, badNodes, adoptionTests, adoptionAnswer, pairsAdopted, adoptionFloats, adoptionWords}
 use Rattle.adoption.specs.Fits.{Fit}
 

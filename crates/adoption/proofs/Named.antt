@@ -5,8 +5,8 @@ use mathlib.Core.List.{List, [], _∷_}
 use Prim.Native.Nat.{ℕ}
 use lib.Dec.{eqb}
 use borrow.Author.Tests.{eqb-true, eq-eqb}
+use Rattle.lists.proofs.Bools.{or-none}
 use Rattle.node.specs.declared.Node.{Node}
-use Rattle.plan.proofs.Bools.{or-none}
 use Rattle.adoption.specs.Adoption.{Lent, nodeIn, skipped, adopted, adoptedAt, stored, pairAdopted, pairsAdopted}
 use Rattle.adoption.specs.Fits.{Fit}
 use Rattle.adoption.proofs.Adopted.{adopted-again}

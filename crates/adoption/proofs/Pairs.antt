@@ -10,13 +10,13 @@ use lib.Seq.{drop-cons}
 use lib.Ieee.{Float}
 use lib.Dec.{leb, eqb}
 use borrow.Author.Tests.{le-leb, lt-leb, leb-false, eqb-true, eq-eqb, ne-eqb, not-false}
+use Rattle.lists.proofs.Bools.{or-none}
 use Rattle.node.specs.declared.Node.{Node}
 use Rattle.node.specs.Nodes.{Full}
 use Rattle.node.specs.Areas.{Room, lenAt, storedFloats, storedWords, InRange}
 use Rattle.node.proofs.Kept.{full-load}
 use Rattle.node.proofs.Areas.{length-stored-floats, length-stored-words}
 use Rattle.node.proofs.Bad.{none-bad-at, none-bad-stored}
-use Rattle.plan.proofs.Bools.{or-none}
 use Rattle.adoption.specs.Adoption.{Lent, lent, nodeIn, skipped, adopted, adoptedAt, stored, pairAdopted, pairsAdopted}
 use Rattle.adoption.specs.Fits.{Fit}
 use Rattle.adoption.proofs.Adopted.{adopted-full, adopted-good}

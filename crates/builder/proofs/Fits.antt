@@ -6,11 +6,11 @@ use Prim.Native.Nat.{ℕ, _+_, _*_, _<_, _≤_}
 use native.Mathlib.Decide.{decLt}
 use native.Mathlib.Omega.{arith}
 use borrow.Author.Tests.{ltb-false}
+use Rattle.lists.proofs.Bools.{or-none}
 use Rattle.refusal.specs.declared.Answer.the-variants.{Accepted}
 use Rattle.refusal.proofs.Laws.{accepted-none}
-use Rattle.node.specs.Sizes.{maxValues, nodeFloats, nodeWords, maxRamp}
 use lib.ListN.{length}
-use Rattle.plan.proofs.Bools.{or-none}
+use Rattle.node.specs.Sizes.{maxValues, nodeFloats, nodeWords, maxRamp}
 use Rattle.plan.proofs.Words.{read-cut}
 use Rattle.plan.specs.declared.Plan.{Plan}
 use Rattle.plan.specs.Limits.{Limits, maxBlock}

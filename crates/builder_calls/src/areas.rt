@@ -17,16 +17,6 @@ pub fn put_numbers(from: usize, n: usize, at: usize, indices: &mut [u32])
     }
 }
 
-// The values, stored from place `at` on; the C interface's lookup uses it too. Requires room for them.
-pub fn put_floats(values: &[f32], at: usize, area: &mut [f32])
-    requires { ⌜ at + length (now values) ≤ length (now area) ⌝ }
-    ensures { λ _. ⌜ now (area .exit) ≡ sets (now (area .entry)) at (now (values .entry)) ⌝ }
-{
-    for i in 0..values.len() {
-        area[at + i] = values[i];
-    }
-}
-
 // The first n words, stored from place `at` on. Requires as many, and room for them.
 pub fn put_words(words: &[u32], n: usize, at: usize, area: &mut [u32])
     requires { ⌜ (n ≤ length (now words)) × (at + n ≤ length (now area)) ⌝ }

@@ -2,9 +2,9 @@
 // docs/DECISIONS.md, point 2, lists, and a refused one changes nothing.
 mod areas;
 
-pub use areas::put_floats;
 use builder::NumberAnswer;
 use builder::SpanAnswer;
+use lists::put_floats;
 use node::Node;
 use plan::Plan;
 use plan::Span;
@@ -105,7 +105,7 @@ impl PlanBuilder {
         ensures { λ r. ⌜ r ≡ bufferNumber plan span i (now (indices .entry)) ⌝ }
     {
         let start = span.start as usize;
-        let end = node::smaller(plan.indices, indices.len());
+        let end = lists::smaller(plan.indices, indices.len());
         if end <= start {
             return NumberAnswer::Refused(Refusal::of(Refusal::SHORT_AREA));
         }
@@ -128,7 +128,7 @@ impl PlanBuilder {
             },
             Answer::Accepted => {
                 let at = plan.coefficients;
-                areas::put_floats(values, at, area);
+                put_floats(values, at, area);
                 let mut grown = plan;
                 grown.coefficients = at + values.len();
                 let span = Span {

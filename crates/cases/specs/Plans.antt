@@ -5,6 +5,7 @@ use mathlib.Core.List.{List, [], _∷_, _++_}
 use lib.Count.{ones, onesIn}
 use lib.ListN.{length, replicate}
 use lib.Ieee.{Float, add, sub, mul, div, eq, ofInt, ofBits}
+use Rattle.lists.specs.Entries.{someFrom, has, meet}
 use Rattle.refusal.specs.declared.Answer.{Answer}
 use Rattle.refusal.specs.declared.Answer.the-variants.{Accepted}
 use Rattle.node.specs.declared.Node.{Node}
@@ -15,7 +16,7 @@ use Rattle.mix.specs.Mix.{added, weighted, sent, columns, weighs}
 use Rattle.plan.specs.Limits.{unitLimits}
 use Rattle.plan.specs.Areas.{Areas, areas}
 use Rattle.plan.specs.Words.{patchMap, clearMap, sendMap, outputMap, stepOf, decodedFrom, decoded}
-use Rattle.plan.specs.Check.{someFrom, idAmong, idTwice, outside, has, meet, shares, stepsTests, checkPlan}
+use Rattle.plan.specs.Check.{idAmong, idTwice, outside, shares, stepsTests, checkPlan}
 use Rattle.builder.specs.Calls.{numbersFrom, newAnswer, buffersIndices, coefficientsArea, nodeFloatsArea, nodeWordsArea, stepArea, finishAnswer, finishArea}
 use Rattle.builder.specs.Built.{Call, buffers, coefficients, node, step}
 use Rattle.trace.specs.Calls.{sourcesAnswer, sourcesArea}

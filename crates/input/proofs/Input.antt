@@ -13,8 +13,8 @@ use lib.Ieee.{Float}
 use borrow.Author.Tests.{ltb-true, ltb-false, eqb-true, not-false}
 use Rattle.lists.specs.Parts.{part}
 use Rattle.lists.proofs.Stores.{length-part}
-use Rattle.plan.proofs.Bools.{or-none}
-use Rattle.plan.proofs.Scans.{Counted, counted-at}
+use Rattle.lists.proofs.Bools.{or-none}
+use Rattle.lists.proofs.Scans.{Counted, counted-at}
 use Rattle.input.specs.Input.{entryWords, maxEntries, entries, entryWord, entryFor, entryPart, lookupFrom, lookup, somePast, directoryBad}
 
 -- ---- a part that is cut at the end of the samples

@@ -1,5 +1,5 @@
 // The input block: a directory of entries, four u32 each (input, channel, start, length), over the lent samples. It stands in for the trait object
-// `InputSource` of src/engine/plan.rs. `lookup` and `directory_bad` are calls of the interface; the other `pub` functions are for crate `run`.
+// `InputSource` of src/engine/plan.rs. `lookup` and `directory_bad` are calls of the interface; the other `pub` functions are for crate `run_process`.
 use plan::Step;
 ghost use mathlib.Core.Path.{_≡_};
 ghost use mathlib.Core.Bool.{false};

@@ -1,2 +1,3 @@
--- Parts of a list, and lists made place by place.
+-- Parts of a list, lists made place by place, and the entries of a list.
 pub mod Parts
+pub mod Entries

@@ -23,7 +23,7 @@ pub fn gain(
     requires { ⌜ Values (min (length (now src)) (length (now dst))) (now cur) (now step) (now target) ⌝ }
     ensures { λ _. ⌜ now (area .exit) ≡ gained block (gainAt (now (cur .entry)) (now (step .entry)) (now (target .entry)) left) 0 (now (src .entry)) (now (dst .entry)) (now (area .entry)) ⌝ }
 {
-    let n = node::smaller(src.len(), dst.len());
+    let n = lists::smaller(src.len(), dst.len());
     for c in 0..n {
         let s = src[c] as usize;
         let d = dst[c] as usize;

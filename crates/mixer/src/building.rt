@@ -1,4 +1,4 @@
-// The builder calls, of crate `builder`.
+// The builder calls, of crate `builder_calls`.
 use builder_calls::PlanBuilder;
 use mixer_replies::BufferReply;
 use mixer_replies::NodeReply;

@@ -1,4 +1,4 @@
-// The plan check, of crate `plan`, the calls of crate `run`, and `adopt`, of crate `adoption`.
+// The plan check, of crate `plan_check`; `process`, of crate `run_process`; the calls of crates `setting`, `input` and `adoption`.
 use mixer_replies::CountReply;
 use mixer_replies::Status;
 use mixer_replies::counted;
@@ -107,7 +107,7 @@ pub extern "C" fn mixer_lookup(
     if part.len() < found.len() {
         return not_counted(Refusal::of(Refusal::SHORT_AREA));
     }
-    builder_calls::put_floats(found, 0, part);
+    lists::put_floats(found, 0, part);
     counted(found.len())
 }
 

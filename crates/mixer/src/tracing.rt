@@ -1,4 +1,4 @@
-// The calls of crate `trace`.
+// The calls of crate `trace_calls`.
 use mixer_replies::CleanReply;
 use mixer_replies::CountReply;
 use mixer_replies::clean_reply;

@@ -1,7 +1,8 @@
 // The smoothed values of one node of a mix plan, one gain of it, and a node in its lent areas.
 // All of it is for the crates above and not the interface: a function that has a `requires` says in its comment what it takes.
+use lists::smaller;
 ghost use mathlib.Core.Path.{_≡_};
-ghost use Prim.Native.Nat.{_+_, _*_, _<_, _≤_, min};
+ghost use Prim.Native.Nat.{_+_, _*_, _<_, _≤_};
 ghost use lib.ListN.{length};
 ghost use lib.Seq.{sets};
 ghost use Rattle.lists.specs.Parts.{part};
@@ -25,13 +26,6 @@ pub struct Node {
 pub enum Gain {
     Rest(f32),
     Moving(f32, f32, f32, u32),
-}
-
-// The lesser of two counts.
-pub fn smaller(a: usize, b: usize) -> usize
-    ensures { λ r. ⌜ r ≡ min a b ⌝ }
-{
-    if a < b { a } else { b }
 }
 
 impl Node {

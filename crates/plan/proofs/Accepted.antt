@@ -6,6 +6,7 @@ use mathlib.Core.List.{List}
 use Prim.Native.Nat.{ℕ, suc, _≤_, _<_}
 use native.Mathlib.Omega.{arith}
 use lib.ListN.{length, getD}
+use Rattle.lists.proofs.Entries.{some-none, entries-none}
 use Rattle.refusal.specs.declared.Answer.the-variants.{Accepted}
 use Rattle.plan.specs.declared.Plan.{Plan}
 use Rattle.plan.specs.declared.Span.{Span}
@@ -16,7 +17,7 @@ use Rattle.plan.specs.Areas.{Areas, shortAreas, shortLists}
 use Rattle.plan.specs.Words.{readAt}
 use Rattle.plan.specs.Check.{named, checked, checkPlan}
 use Rattle.plan.specs.Sound.{Within, Inside, Narrow, Apart, IndexList, Pass, Passes}
-use Rattle.plan.proofs.Plans.{WithinLimits, Room, ListRoom, areas-none, lists-none, some-none, entries-none}
+use Rattle.plan.proofs.Plans.{WithinLimits, Room, ListRoom, areas-none, lists-none}
 use Rattle.plan.proofs.Spans.{length-named, named-below}
 use Rattle.plan.proofs.Steps.{outside-none, wide-none, shares-none}
 use Rattle.plan.proofs.Exact.{accepted-sound}

@@ -6,6 +6,7 @@ use mathlib.Core.List.{List, [], _++_}
 use Prim.Native.Nat.{ℕ, suc, _+_, _-_, _<_}
 use native.Mathlib.Omega.{arith}
 use lib.ListN.{take}
+use Rattle.lists.specs.Entries.{someFrom}
 use Rattle.refusal.specs.Numbers.{blockLength, shortArea, unreadableStep, outsideTable, overLimit, sharedBuffer, tooManyValues, idTaken}
 use Rattle.refusal.specs.Tests.{refusal, Test, first}
 use Rattle.refusal.specs.declared.Refusal.{Refusal}
@@ -19,7 +20,7 @@ use Rattle.plan.specs.declared.Counted.the-variants as tally
 use Rattle.plan.specs.Limits.{unitLimits, badBlock, overLimits}
 use Rattle.plan.specs.Words.{readAt}
 use Rattle.plan.specs.Loops.{counted}
-use Rattle.plan.specs.Check.{someFrom, idTwice, outside, tooWide, shares, stepTests, stepsTests, checked}
+use Rattle.plan.specs.Check.{idTwice, outside, tooWide, shares, stepTests, stepsTests, checked}
 
 -- what is left of n at an i below it
 pub rest-of : {n i : ℕ} → i < n → n - i ≡ suc (n - (i + 1))

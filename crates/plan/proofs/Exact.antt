@@ -5,6 +5,7 @@ use mathlib.Core.List.{List}
 use mathlib.Core.Logic.{_↔_}
 use Prim.Native.Nat.{ℕ}
 use lib.ListN.{take}
+use Rattle.lists.proofs.Entries.{entries-none}
 use Rattle.refusal.specs.Tests.{FirstHolds}
 use Rattle.refusal.specs.declared.Refusal.{Refusal}
 use Rattle.refusal.specs.declared.Answer.the-variants.{Accepted, Refused}
@@ -14,7 +15,7 @@ use Rattle.plan.specs.Limits.{unitLimits}
 use Rattle.plan.specs.Words.{decoded}
 use Rattle.plan.specs.Check.{planTests, checked}
 use Rattle.plan.specs.Sound.{stepsOf, Sound, Passes}
-use Rattle.plan.proofs.Plans.{WithinLimits, block-none, limits-none, entries-none, ids-none}
+use Rattle.plan.proofs.Plans.{WithinLimits, block-none, limits-none, ids-none}
 use Rattle.plan.proofs.Passes.{All, none-passes, passes-none, passes-all, all-passes}
 
 module _ (p : Plan) (short : Bool) (indices words steps : List ℕ) where

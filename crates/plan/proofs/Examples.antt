@@ -5,12 +5,13 @@ use Prim.Native.Nat.{ℕ}
 use lib.Count.{ones, onesIn}
 use lib.Ieee.{nan}
 use lib.ListN.{replicate}
+use Rattle.lists.specs.Entries.{someFrom, has, meet}
 use Rattle.refusal.specs.Tests.{refusal}
 use Rattle.refusal.specs.declared.Answer.{Answer}
 use Rattle.refusal.specs.declared.Answer.the-variants.{Accepted, Refused}
 use Rattle.plan.specs.Areas.{areas}
 use Rattle.plan.specs.Words.{patchMap, matrixMap, stepOf, readAt}
-use Rattle.plan.specs.Check.{someFrom, idAmong, idTwice, outside, tooWide, has, meet, shares, stepsTests, checked, checkPlan}
+use Rattle.plan.specs.Check.{idAmong, idTwice, outside, tooWide, shares, stepsTests, checked, checkPlan}
 
 -- a block and nothing else
 abbrev blockOf : ℕ → Answer

@@ -1,9 +1,5 @@
 -- Laws that belong to no one function, for the crates above too.
 
--- a disjunction that is false or true, a conjunction that is true, and a test of equality the other way round
-pub mod Bools
--- tests of one entry after another
-pub mod Scans
 -- the step words: what stands at a place, and the list of steps turn by turn
 pub mod Words
 -- where in the words a step lies

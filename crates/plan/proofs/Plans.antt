@@ -1,22 +1,21 @@
 -- The tests of a plan as a whole in plain terms: what each says where it does not hold, and the other way. Assumes nothing.
-use mathlib.Core.Path.{_≡_}
+use mathlib.Core.Path.{_≡_, refl}
 use mathlib.Core.Bool.{false}
 use mathlib.Core.List.{List}
 use mathlib.Core.Logic.{_↔_}
-use Prim.Native.Nat.{ℕ, _*_, _≤_, _<_, min}
-use native.Mathlib.Nat.{mul-one, lt-of-lt-of-le}
-use native.Mathlib.Omega.{arith}
-use lib.ListN.{length, getD, take, length-take}
-use lib.Seq.{getD-take}
-use borrow.Author.Tests.{ltb-false, leb-false, eqb-false, le-ltb, lt-leb, ne-eqb}
+use Prim.Native.Nat.{ℕ, _*_, _≤_, _<_}
+use native.Mathlib.Nat.{mul-one}
+use lib.Dec.{eqb}
+use lib.ListN.{length}
+use borrow.Author.Tests.{ltb-false, eqb-false, le-ltb, ne-eqb}
+use Rattle.lists.proofs.Bools.{or-none}
+use Rattle.lists.proofs.Scans.{Counted, counted-at, counted-none}
 use Rattle.node.specs.Sizes.{nodeFloats, nodeWords}
 use Rattle.node.specs.Areas.{idAt}
 use Rattle.plan.specs.declared.Plan.{Plan}
 use Rattle.plan.specs.Limits.{maxBlock, Limits, badBlock, overLimits}
 use Rattle.plan.specs.Areas.{Areas, shorter, shortAreas, shortLists}
-use Rattle.plan.specs.Check.{someFrom, idAmong, idTwice}
-use Rattle.plan.proofs.Bools.{or-none}
-use Rattle.plan.proofs.Scans.{some-listed, listed-at, listed-none, among-counted, twice-counted, counted-at, counted-none}
+use Rattle.plan.specs.Check.{idAmong, idTwice}
 
 -- ---- numbers 1 and 5
 pub block-none : (block : ℕ) → (badBlock block ≡ false) ↔ ((1 ≤ block) × (block ≤ maxBlock))
@@ -111,26 +110,15 @@ module _ (p : Plan) where
       let r = areas-none a .0 e in
       lists-none (a .indices) (a .nodeWords) (a .stepWords) .1 (record { entries = r .indices; nodes = r .words; step-words = r .steps })
 
--- ---- number 4 of the index entries
-pub some-none : (n : ℕ) (xs : List ℕ) → (someFrom n xs ≡ false) ↔ ((i : ℕ) → i < length xs → getD xs i 0 < n)
-some-none n xs = (
-  λ e i h. leb-false n (getD xs i 0) (listed-at (some-listed n) xs e i h),
-  λ all. listed-none (some-listed n) xs (λ i h. lt-leb n (getD xs i 0) (all i h)),
-)
-
--- and so of any bound above
-pub some-more : (n m : ℕ) (xs : List ℕ) → n ≤ m → someFrom n xs ≡ false → someFrom m xs ≡ false
-some-more n m xs h e = some-none m xs .1 (λ i l. lt-of-lt-of-le (some-none n xs .0 e i l) h)
-
-pub entries-none : (n count : ℕ) (xs : List ℕ) → (someFrom n (take count xs) ≡ false) ↔ ((i : ℕ) → i < count → i < length xs → getD xs i 0 < n)
-entries-none n count xs = (
-  λ e i h k. rw (getD-take count xs i 0 h) at (some-none n (take count xs) .0 e i (rw length-take (omega arith))),
-  λ all.
-      some-none n (take count xs) .1
-      (λ i h. let k : i < min count (length xs) = rw length-take at h in rw (getD-take count xs i 0 (omega arith)) (all i (omega arith) (omega arith))),
-)
-
 -- ---- number 8
+pub among-counted : (words : List ℕ) (id : ℕ) → Counted (λ n. idAmong words n id) (λ n. eqb (idAt words n) id)
+unfolding idAmong
+among-counted words id = record { none = refl; more = λ n. refl }
+
+pub twice-counted : (words : List ℕ) → Counted (idTwice words) (λ n. idAmong words n (idAt words n))
+unfolding idTwice
+twice-counted words = record { none = refl; more = λ n. refl }
+
 pub among-none : (words : List ℕ) (n id : ℕ) → (idAmong words n id ≡ false) ↔ ((i : ℕ) → i < n → idAt words i ≡ id → ⊥)
 among-none words n id = (
   λ e i h. eqb-false (idAt words i) id (counted-at (among-counted words id) n e i h),

@@ -11,14 +11,14 @@ use lib.ListN.{length, getD, take, drop, length-take, length-drop}
 use lib.Seq.{getD-take, getD-drop}
 use borrow.Author.Tests.{leb-true}
 use Rattle.lists.proofs.Stores.{length-part, part-take}
+use Rattle.lists.specs.Entries.{someFrom, meet, Disjoint}
+use Rattle.lists.proofs.Bools.{or-some}
+use Rattle.lists.proofs.Entries.{some-none, some-more, entries-none, meet-none}
 use Rattle.plan.specs.declared.Plan.{Plan}
 use Rattle.plan.specs.declared.Span.{Span}
-use Rattle.plan.specs.Check.{someFrom, named, used, firstOf, meet}
-use Rattle.plan.specs.Sound.{Within, Disjoint, IndexList}
+use Rattle.plan.specs.Check.{named, used, firstOf}
+use Rattle.plan.specs.Sound.{Within, IndexList}
 use Rattle.plan.specs.Loops.{Ascending, spanBefore}
-use Rattle.plan.proofs.Bools.{or-some}
-use Rattle.plan.proofs.Plans.{some-none, some-more, entries-none}
-use Rattle.plan.proofs.Steps.{meet-none}
 
 module _ (indices : List ℕ) (s : Span) where
   pub length-named : Within (length indices) s → length (named indices s) ≡ s .len

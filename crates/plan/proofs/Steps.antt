@@ -3,16 +3,15 @@ use mathlib.Core.Path.{_≡_, refl, sym, ap, _∙_}
 use mathlib.Core.Bool.{false}
 use mathlib.Core.List.{List}
 use mathlib.Core.Logic.{_↔_}
-use Prim.Native.Nat.{ℕ, _<_}
-use lib.ListN.{length, getD}
-use borrow.Author.Tests.{ltb-false, leb-false, eqb-false, le-ltb, lt-leb, ne-eqb}
+use Prim.Native.Nat.{ℕ}
+use borrow.Author.Tests.{ltb-false, leb-false, le-ltb, lt-leb}
+use Rattle.lists.proofs.Bools.{or-none}
+use Rattle.lists.proofs.Entries.{meet-none}
 use Rattle.plan.specs.declared.Plan.{Plan}
 use Rattle.plan.specs.declared.Step.{Step}
 use Rattle.plan.specs.declared.Step.the-variants.{Patch, Gain, Matrix, Clear, Send, Output}
-use Rattle.plan.specs.Check.{outside, tooWide, has, meet, shares}
-use Rattle.plan.specs.Sound.{Inside, Narrow, Disjoint, Apart}
-use Rattle.plan.proofs.Bools.{or-none}
-use Rattle.plan.proofs.Scans.{has-listed, meet-listed, listed-at, listed-none}
+use Rattle.plan.specs.Check.{outside, tooWide, shares}
+use Rattle.plan.specs.Sound.{Inside, Narrow, Apart}
 
 -- ---- number 4
 pub outside-none : (p : Plan) (s : Step) → (outside p s ≡ false) ↔ Inside p s
@@ -61,18 +60,6 @@ wide-none (Send n s d c) = (λ e. tt, λ h. refl)
 wide-none (Output s o) = (λ e. tt, λ h. refl)
 
 -- ---- number 6
-pub has-none : (ys : List ℕ) (x : ℕ) → (has ys x ≡ false) ↔ ((j : ℕ) → j < length ys → x ≡ getD ys j 0 → ⊥)
-has-none ys x = (
-  λ e j h q. eqb-false (getD ys j 0) x (listed-at (has-listed x) ys e j h) (sym q),
-  λ all. listed-none (has-listed x) ys (λ j h. ne-eqb (getD ys j 0) x (λ q. all j h (sym q))),
-)
-
-pub meet-none : (xs ys : List ℕ) → (meet xs ys ≡ false) ↔ Disjoint xs ys
-meet-none xs ys = (
-  λ e i j h k q. has-none ys (getD xs i 0) .0 (listed-at (meet-listed ys) xs e i h) j k q,
-  λ d. listed-none (meet-listed ys) xs (λ i h. has-none ys (getD xs i 0) .1 (λ j k q. d i j h k q)),
-)
-
 pub shares-none : (indices : List ℕ) (s : Step) → (shares indices s ≡ false) ↔ Apart indices s
 unfolding shares
 shares-none indices (Patch i c d) = (λ e. tt, λ h. refl)

@@ -5,6 +5,7 @@ use mathlib.Core.List.{List, [], _∷_}
 use lib.ListN.{take}
 use lib.Dec.{ltb, leb, eqb}
 use Rattle.lists.specs.Parts.{part}
+use Rattle.lists.specs.Entries.{someFrom, meet}
 use Rattle.refusal.specs.Numbers.{blockLength, shortArea, unreadableStep, outsideTable, overLimit, sharedBuffer, tooManyValues, idTaken}
 use Rattle.refusal.specs.Tests.{Test, test, testAt, first}
 use Rattle.refusal.specs.declared.Answer.{Answer}
@@ -22,11 +23,6 @@ use Rattle.plan.specs.Words.{readAt}
 use Rattle.plan.specs.Areas.{Areas, shortAreas}
 
 -- ---- the tests of the plan as a whole
-
--- an entry is n or above
-unfoldable pub someFrom : ℕ → List ℕ → Bool
-someFrom n [] = false
-someFrom n (x ∷ xs) = leb n x || someFrom n xs
 
 -- one of the first n nodes has the id; two of them have the same
 unfoldable pub idAmong : List ℕ → ℕ → ℕ → Bool
@@ -72,15 +68,6 @@ tooWide (Matrix n s d) = ltb maxValues (s .len * d .len)
 tooWide (Clear d) = false
 tooWide (Send n s d c) = false
 tooWide (Output s o) = false
-
--- x is in a list; an entry of one list is in another
-unfoldable pub has : List ℕ → ℕ → Bool
-has [] x = false
-has (y ∷ ys) x = eqb y x || has ys x
-
-unfoldable pub meet : List ℕ → List ℕ → Bool
-meet [] ys = false
-meet (x ∷ xs) ys = has ys x || meet xs ys
 
 -- one buffer in both src and dst; of a Gain, among the channels that it uses
 unfoldable pub shares : List ℕ → Step → Bool

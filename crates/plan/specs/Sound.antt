@@ -5,6 +5,7 @@ use mathlib.Core.Path.{_≡_}
 use mathlib.Core.Bool.{Bool, false}
 use mathlib.Core.List.{List, [], _∷_}
 use lib.ListN.{length, getD, take}
+use Rattle.lists.specs.Entries.{someFrom, Disjoint}
 use Rattle.node.specs.Sizes.{maxValues}
 use Rattle.node.specs.Areas.{idAt}
 use Rattle.plan.specs.declared.Plan.{Plan}
@@ -14,7 +15,7 @@ use Rattle.plan.specs.declared.Step.the-variants.{Patch, Gain, Matrix, C
 use Rattle.plan.specs.declared.Read.the-variants.{Found}
 use Rattle.plan.specs.Limits.{maxBlock, inputs, slots, unitLimits}
 use Rattle.plan.specs.Words.{readAt, decoded}
-use Rattle.plan.specs.Check.{someFrom, named, outside, used, firstOf, tooWide, shares}
+use Rattle.plan.specs.Check.{named, outside, used, firstOf, tooWide, shares}
 
 -- ---- a step
 
@@ -40,10 +41,6 @@ Narrow (Matrix n s d) = s .len * d .len ≤ maxValues
 Narrow (Clear d) = Unit {0}
 Narrow (Send n s d c) = Unit {0}
 Narrow (Output s o) = Unit {0}
-
--- no entry of one list is an entry of the other
-abbrev pub Disjoint : List ℕ → List ℕ → Type 0
-Disjoint xs ys = (i j : ℕ) → i < length xs → j < length ys → getD xs i 0 ≡ getD ys j 0 → ⊥
 
 -- no buffer is in both src and dst; of a Gain, among the channels that it uses
 abbrev pub Apart : List ℕ → Step → Type 0

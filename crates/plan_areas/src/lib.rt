@@ -5,10 +5,11 @@ ghost use mathlib.Core.Path.{_≡_};
 ghost use mathlib.Core.Bool.{true, false};
 ghost use Prim.Native.Nat.{_*_, _<_, _≤_};
 ghost use lib.ListN.{length};
+ghost use Rattle.lists.specs.Entries.{someFrom};
 ghost use Rattle.node.specs.Sizes.{nodeWords};
 ghost use Rattle.plan.specs.Limits.{unitLimits, badBlock, overLimits};
 ghost use Rattle.plan.specs.Areas.{areas, shorter, shortAreas, shortLists};
-ghost use Rattle.plan.specs.Check.{someFrom, idAmong, idTwice};
+ghost use Rattle.plan.specs.Check.{idAmong, idTwice};
 ghost use Rattle.plan.specs.Loops.{Ascending};
 
 // Number 1.

@@ -8,8 +8,9 @@ ghost use mathlib.Core.Path.{_≡_};
 ghost use mathlib.Core.Bool.{true, false, _||_};
 ghost use Prim.Native.Nat.{ℕ, _+_, _*_, _<_, _≤_};
 ghost use lib.ListN.{length};
+ghost use Rattle.lists.specs.Entries.{someFrom, has, meet};
 ghost use Rattle.sets.specs.Sets.{member};
-ghost use Rattle.plan.specs.Check.{someFrom, past, named, outside, used, firstOf, tooWide, has, meet, shares};
+ghost use Rattle.plan.specs.Check.{past, named, outside, used, firstOf, tooWide, shares};
 ghost use Rattle.plan.specs.Sound.{Within, IndexList};
 ghost use Rattle.plan.specs.Loops.{Ascending, spanBefore, channels};
 

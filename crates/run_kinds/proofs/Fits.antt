@@ -13,6 +13,8 @@ use lib.Ieee.{Float, nan}
 use borrow.Author.Tests.{le-leb, lt-leb}
 use Rattle.lists.specs.Parts.{part}
 use Rattle.lists.proofs.Stores.{length-part}
+use Rattle.lists.specs.Entries.{someFrom, Disjoint}
+use Rattle.lists.proofs.Entries.{some-none}
 use Rattle.node.specs.Sizes.{maxValues, nodeFloats}
 use Rattle.node.specs.Nodes.{gainAt, gainOf}
 use Rattle.node.specs.Areas.{Room, lenAt, leftAt, nodeAt}
@@ -24,9 +26,8 @@ use Rattle.mix.proofs.Given.{buffer-inside}
 use Rattle.plan.specs.declared.Plan.{Plan}
 use Rattle.plan.specs.declared.Span.{Span}
 use Rattle.plan.specs.Limits.{maxBlock}
-use Rattle.plan.specs.Check.{someFrom, named, used, firstOf}
-use Rattle.plan.specs.Sound.{Within, IndexList, Disjoint}
-use Rattle.plan.proofs.Plans.{some-none}
+use Rattle.plan.specs.Check.{named, used, firstOf}
+use Rattle.plan.specs.Sound.{Within, IndexList}
 use Rattle.plan.proofs.Spans.{length-named, named-below, used-src, used-dst}
 use Rattle.run_kinds.specs.Loops.{NodeFit}
 

@@ -8,6 +8,7 @@ ghost use Prim.Native.Nat.{_+_, _*_, _≤_};
 ghost use lib.ListN.{length};
 ghost use lib.Seq.{sets};
 ghost use Rattle.lists.specs.Parts.{part};
+ghost use Rattle.lists.specs.Entries.{Disjoint};
 ghost use Rattle.node.specs.Sizes.{maxValues, nodeFloats, maxRamp};
 ghost use Rattle.node.specs.Nodes.{gainOf};
 ghost use Rattle.node.specs.Areas.{Room, lenAt, nodeAt, storedFloats, storedWords};
@@ -15,7 +16,7 @@ ghost use Rattle.mix.specs.Samples.{put};
 ghost use Rattle.mix.specs.Mix.{patched, gained, rows, sends, cleared, appended, Inside};
 ghost use Rattle.plan.specs.declared.Step.the-variants as step;
 ghost use Rattle.plan.specs.Check.{named};
-ghost use Rattle.plan.specs.Sound.{Within, Disjoint, Narrow, Apart, IndexList};
+ghost use Rattle.plan.specs.Sound.{Within, Narrow, Apart, IndexList};
 ghost use Rattle.run_kinds.specs.Loops.{curRow, ended, NodeFit};
 
 // A row of a node. Requires floats that reach past it.

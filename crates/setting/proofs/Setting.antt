@@ -9,6 +9,7 @@ use lib.ListN.{length}
 use lib.Dec.{ltb, eqb}
 use lib.Ieee.{Float}
 use borrow.Author.Tests.{ltb-false, eqb-true, not-false}
+use Rattle.lists.proofs.Bools.{or-none}
 use Rattle.refusal.specs.declared.Refusal.{Refusal}
 use Rattle.refusal.specs.declared.Answer.{Answer}
 use Rattle.refusal.specs.declared.Answer.the-variants.{Accepted, Refused}
@@ -21,7 +22,6 @@ use Rattle.node.proofs.Bad.{none-bad-at}
 use Rattle.plan.specs.Limits.{unitLimits}
 use Rattle.plan.specs.Areas.{shorter}
 use Rattle.plan.specs.Check.{idAmong, idTwice}
-use Rattle.plan.proofs.Bools.{or-none}
 use Rattle.plan.proofs.Plans.{ids-none}
 use Rattle.setting.specs.Setting.{nodeOf, settingTests, settingAnswer, settingFloats, settingWords}
 

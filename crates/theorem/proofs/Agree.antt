@@ -11,6 +11,8 @@ use lib.Dec.{eqb}
 use lib.ListN.{length, getD}
 use lib.Ieee.{Float, nan}
 use borrow.Author.Tests.{eqb-true}
+use Rattle.lists.specs.Entries.{has}
+use Rattle.lists.proofs.Bools.{or-some}
 use Rattle.node.specs.declared.Gain.{Gain}
 use Rattle.node.specs.declared.Gain.the-variants.{Rest, Moving}
 use Rattle.node.specs.Nodes.{factor}
@@ -18,8 +20,6 @@ use Rattle.mix.specs.Samples.{silence, sample, put}
 use Rattle.mix.specs.Mix.{scaled, added, weighted, sent, scale, mixIn, sendIn, clearBuffer, gained, columns, rows, weighs, sends, cleared}
 use Rattle.mix.proofs.Put.{length-put, put-sample, put-other}
 use Rattle.mix.proofs.Given.{buffer-inside}
-use Rattle.plan.specs.Check.{has}
-use Rattle.plan.proofs.Bools.{or-some}
 
 -- of each of a list
 abbrev pub All : (ℕ → Type 0) → List ℕ → Type 0

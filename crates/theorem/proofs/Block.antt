@@ -10,6 +10,8 @@ use lib.Dec.{eqb, leb}
 use lib.ListN.{length, getD}
 use lib.Ieee.{Float, nan}
 use borrow.Author.Tests.{eqb-true, eqb-false, eq-eqb, leb-true}
+use Rattle.lists.specs.Entries.{has}
+use Rattle.lists.proofs.Bools.{and-both, or-left, or-right, and-intro}
 use Rattle.node.specs.declared.Node.{Node}
 use Rattle.node.specs.declared.Gain.{Gain}
 use Rattle.node.specs.Nodes.{gainOf}
@@ -18,14 +20,11 @@ use Rattle.mix.specs.Samples.{sample, put}
 use Rattle.mix.specs.Mix.{gained, rows, sends, cleared, patched}
 use Rattle.mix.proofs.Laws.{not-used, gained-other, rows-other, sends-other, cleared-other, appended-at, appended-before}
 use Rattle.mix.proofs.Put.{put-other}
-use Rattle.plan.specs.Check.{has}
-use Rattle.plan.proofs.Bools.{and-both}
 use Rattle.plan.specs.Resolved.{Resolved, patch, gain, matrix, clear, send, output}
 use Rattle.trace.specs.Sources.{union, spread, joins, behind}
 use Rattle.trace.specs.Clean.{written, all, cleanStep, cleanFrom}
 use Rattle.run.specs.Run.{State, stepped, runSteps, outputChannels}
 use Rattle.run.proofs.States.{step-lengths}
-use Rattle.theorem.proofs.Bools.{or-left, or-right, and-intro}
 use Rattle.theorem.proofs.Agree.{All, all-at, Agree, Hold, Paired, gained-paired, rows-paired, sends-paired, cleared-paired, patch-paired}
 use Rattle.theorem.proofs.Steps.{InPlan, width, channels-more, wrote-step, none-of, SameNodes, even, nodes-step, hold-step}
 

@@ -4,8 +4,8 @@ use mathlib.Core.Path.{_≡_, sym, ap, _∙_}
 use mathlib.Core.Bool.{true}
 use mathlib.Core.List.{List}
 use Prim.Native.Nat.{ℕ}
+use Rattle.lists.specs.Entries.{has}
 use Rattle.plan.specs.Areas.{shortLists}
-use Rattle.plan.specs.Check.{has}
 use Rattle.plan.specs.Sound.{Sound}
 use Rattle.plan.proofs.Exact.{accepted-sound}
 use Rattle.trace.specs.Sources.{noSources, behind, sourceList}

@@ -12,6 +12,9 @@ use lib.Dec.{ltb, leb, eqb}
 use lib.IntN.{pos}
 use lib.ListN.{length, getD, replicate}
 use lib.Ieee.{Float, nan, fin, add, sub, mul, div, eq, ofInt, ofBits}
+use Rattle.lists.specs.Entries.{someFrom, has, meet}
+use Rattle.lists.proofs.Bools.{or-none, or-some}
+use Rattle.lists.proofs.Scans.{Counted, counted-at}
 use Rattle.node.specs.Sizes.{nodeFloats, nodeWords}
 use Rattle.node.specs.Nodes.{newNode, setNode, gainOf, factor, finishBlock}
 use Rattle.node.specs.Areas.{nodeAt, floatsOf, wordsOf, badNode, someBad}
@@ -20,9 +23,7 @@ use Rattle.mix.specs.Samples.{sampled}
 use Rattle.mix.specs.Mix.{added, weighted, sent, columns, weighs}
 use Rattle.plan.specs.Words.{patchMap, gainMap, matrixMap, clearMap, sendMap, outputMap, stepOf, decoded, decodedFrom}
 use Rattle.plan.specs.Areas.{Areas, areas}
-use Rattle.plan.specs.Check.{someFrom, idAmong, idTwice, outside, has, meet, shares, stepsTests, checked}
-use Rattle.plan.proofs.Bools.{or-none, or-some}
-use Rattle.plan.proofs.Scans.{Counted, counted-at}
+use Rattle.plan.specs.Check.{idAmong, idTwice, outside, shares, stepsTests, checked}
 use Rattle.builder.specs.Calls.{newAnswer, buffersIndices, coefficientsArea, nodeFloatsArea, nodeWordsArea, stepArea, finishArea}
 use Rattle.builder.specs.Built.{Call, step}
 use Rattle.input.specs.Input.{entryWord, entryFor, entries}

@@ -1,8 +1,6 @@
 -- The two-list theorem: `two-lists` in TwoLists, and what follows for the recorder, `changes-listed` in Recorder. The others are its parts, in
 -- the order in which each uses those before it, and, beside it, Answers and the examples.
 
--- tests joined by and, or
-pub mod Bools
 -- two areas of buffers, sample beside sample
 pub mod Agree
 -- one step of two runs

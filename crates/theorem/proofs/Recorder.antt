@@ -6,10 +6,10 @@ use mathlib.Core.Bool.{Bool, true, false, true≢false}
 use mathlib.Core.List.{List, [], _∷_, _++_, append-nil}
 use Prim.Native.Nat.{ℕ}
 use lib.Ieee.{Float}
+use Rattle.lists.specs.Entries.{has}
 use Rattle.refusal.specs.Tests.{outcome}
 use Rattle.refusal.specs.declared.Answer.{Answer}
 use Rattle.refusal.specs.declared.Answer.the-variants.{Accepted}
-use Rattle.plan.specs.Check.{has}
 use Rattle.plan.specs.Resolved.{Resolved, output}
 use Rattle.trace.specs.Sources.{noSources, behind}
 use Rattle.trace.specs.Clean.{noneWritten, cleanFrom}

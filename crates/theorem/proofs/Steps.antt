@@ -12,6 +12,7 @@ use lib.Dec.{eqb}
 use lib.ListN.{length}
 use lib.Ieee.{Float}
 use borrow.Author.Tests.{eqb-false}
+use Rattle.lists.specs.Entries.{has}
 use Rattle.node.specs.declared.Node.{Node}
 use Rattle.node.specs.Nodes.{gainOf, factor, finishBlock, Full}
 use Rattle.node.specs.Areas.{Room, nodeAt, storedFloats, storedWords}
@@ -19,7 +20,6 @@ use Rattle.node.proofs.Kept.{full-load, full-finish}
 use Rattle.node.proofs.Left.{finish-rest, factor-rest}
 use Rattle.node.proofs.Areas.{stored-same, stored-other}
 use Rattle.mix.specs.Mix.{NotIn}
-use Rattle.plan.specs.Check.{has}
 use Rattle.plan.specs.Resolved.{Resolved, patch, gain, matrix, clear, send, output}
 use Rattle.run.specs.Run.{State, stepped, outputChannels}
 use Rattle.run.proofs.States.{step-lengths}

@@ -5,8 +5,8 @@ use mathlib.Core.Bool.{true}
 use mathlib.Core.List.{List, _∷_, _++_}
 use Prim.Native.Nat.{ℕ}
 use lib.ListN.{length}
+use Rattle.lists.specs.Entries.{has}
 use Rattle.plan.specs.Limits.{unitLimits}
-use Rattle.plan.specs.Check.{has}
 use Rattle.plan.specs.Resolved.{Resolved, output}
 use Rattle.builder.proofs.Fits.{finish-fits}
 use Rattle.trace.specs.Sources.{noSources, behind}

@@ -6,7 +6,7 @@ use mathlib.Core.Logic.{_⊎_}
 use mathlib.Core.Bool.{true}
 use mathlib.Core.List.{List, _∷_, _++_}
 use lib.ListN.{length}
-use Rattle.plan.specs.Check.{has}
+use Rattle.lists.specs.Entries.{has}
 use Rattle.plan.specs.Resolved.{Resolved, output}
 use Rattle.run.specs.Run.{outputChannels}
 use Rattle.run.specs.Calls.{Call, stepsOfPlan}

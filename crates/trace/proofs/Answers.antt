@@ -14,6 +14,7 @@ use borrow.Author.Tests.{ltb-false, leb-false}
 use Rattle.lists.specs.Parts.{part}
 use Rattle.lists.proofs.Stores.{take-stored}
 use Rattle.lists.proofs.Filled.{upto-at, upto-past}
+use Rattle.lists.proofs.Bools.{or-none}
 use Rattle.refusal.specs.Numbers.{shortArea, noSlot}
 use Rattle.refusal.specs.Tests.{Test, test, first, outcome, NoneHolds}
 use Rattle.refusal.specs.declared.Refusal.{Refusal}
@@ -25,7 +26,6 @@ use Rattle.plan.specs.declared.Plan.{Plan}
 use Rattle.plan.specs.Limits.{inputs}
 use Rattle.plan.specs.Areas.{shortLists}
 use Rattle.plan.specs.Check.{planTests, checked}
-use Rattle.plan.proofs.Bools.{or-none}
 use Rattle.trace.specs.Sources.{noSources, behind, sourceList, slotCount}
 use Rattle.trace.specs.Clean.{clean}
 use Rattle.trace.specs.Calls.{tracedSteps, traceAnswer, sourcesAnswer, sourcesArea, allTraced, allAnswer, countsOf, listsOf, allCounts, allLists, cleanAnswer}

@@ -9,13 +9,13 @@ use lib.Dec.{eqb}
 use lib.ListN.{length, getD}
 use lib.Ieee.{Float}
 use borrow.Author.Tests.{eqb-true, eq-eqb}
+use Rattle.lists.specs.Entries.{has}
 use Rattle.sets.specs.Sets.{sift}
 use Rattle.sets.proofs.Sift.{sift-same, sift-entry, sift-ascends, sift-lists}
 use Rattle.plan.specs.declared.Plan.{Plan}
 use Rattle.plan.specs.declared.Step.{Step}
 use Rattle.plan.specs.declared.Step.the-variants.{Patch, Gain, Matrix, Clear, Send, Output}
 use Rattle.plan.specs.Limits.{inputs, slots}
-use Rattle.plan.specs.Check.{has}
 use Rattle.plan.specs.Sound.{Inside, Each, stepsOf, Sound}
 use Rattle.plan.specs.Resolved.{Resolved, patch, gain, matrix, clear, send, output, resolved, resolvedSteps}
 use Rattle.trace.specs.Sources.{noSources, union, spread, joins, behind, sourceList, slotCount}

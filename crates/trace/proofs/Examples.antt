@@ -5,11 +5,12 @@ use Prim.Native.Nat.{ℕ}
 use lib.Count.{ones, onesIn}
 use lib.ListN.{replicate}
 use lib.Ieee.{Float}
+use Rattle.lists.specs.Entries.{someFrom, has, meet}
 use Rattle.refusal.specs.Tests.{refusal}
 use Rattle.sets.specs.Sets.{sift}
 use Rattle.plan.specs.declared.Plan.{Plan}
 use Rattle.plan.specs.Words.{patchMap, clearMap, sendMap, outputMap, stepOf, readAt, decodedFrom, decoded}
-use Rattle.plan.specs.Check.{someFrom, idAmong, idTwice, outside, tooWide, has, meet, shares, stepsTests, checked}
+use Rattle.plan.specs.Check.{idAmong, idTwice, outside, tooWide, shares, stepsTests, checked}
 use Rattle.plan.specs.Resolved.{resolvedSteps}
 use Rattle.trace.specs.Sources.{union, spread, joins, behind, sourceList, slotCount}
 use Rattle.trace.specs.Clean.{written, all, cleanStep, cleanFrom, clean}

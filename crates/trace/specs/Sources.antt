@@ -4,9 +4,9 @@ use Prim.Native.Nat.{ℕ, suc, max}
 use mathlib.Core.Bool.{Bool, false, _&&_, _||_, cond}
 use mathlib.Core.List.{List, [], _∷_}
 use lib.Dec.{eqb}
+use Rattle.lists.specs.Entries.{has}
 use Rattle.sets.specs.Sets.{sift}
 use Rattle.plan.specs.Limits.{inputs}
-use Rattle.plan.specs.Check.{has}
 use Rattle.plan.specs.Resolved.{Resolved, patch, gain, matrix, clear, send, output}
 
 -- before the first step no buffer has an input

@@ -10,6 +10,7 @@ use lib.Dec.{ltb}
 use lib.ListN.{length, drop, take}
 use lib.Seq.{sets, sets-eq, length-take-le}
 use borrow.Author.Tests.{ltb-false, lt-ltb, le-ltb, le-leb, lt-leb}
+use Rattle.lists.proofs.Bools.{or-none}
 use Rattle.refusal.specs.Numbers.{shortArea, noSlot}
 use Rattle.refusal.specs.Tests.{refusal, Test, first}
 use Rattle.refusal.specs.declared.Refusal.{Refusal}
@@ -25,7 +26,6 @@ use Rattle.plan.specs.Areas.{shortLists}
 use Rattle.plan.specs.Check.{planTests, checked}
 use Rattle.plan.specs.Sound.{stepsOf, Tested}
 use Rattle.plan.specs.Resolved.{Resolved}
-use Rattle.plan.proofs.Bools.{or-none}
 use Rattle.plan.proofs.Exact.{accepted-passes, accepted-sound}
 use Rattle.plan.proofs.Accepted.{accepted-limits, accepted-list, accepted-lists}
 use Rattle.trace.specs.Sources.{noSources, behind, sourceList, slotCount}

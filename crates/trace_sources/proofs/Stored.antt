@@ -12,12 +12,12 @@ use lib.ListN.{length, getD, set, drop, replicate, length-replicate, getD-replic
 use lib.Seq.{sets}
 use borrow.Author.Tests.{eqb-true, eqb-false}
 use Rattle.lists.proofs.Stores.{getD-sets, getD-sets-at}
+use Rattle.lists.specs.Entries.{has}
+use Rattle.lists.proofs.Bools.{eqb-swap}
+use Rattle.lists.proofs.Scans.{Listed, has-listed, listed-here, listed-end}
 use Rattle.sets.specs.declared.Set.{Set}
 use Rattle.sets.specs.Sets.{member, words}
 use Rattle.sets.proofs.Laws.{member-empty}
-use Rattle.plan.specs.Check.{has}
-use Rattle.plan.proofs.Bools.{eqb-swap}
-use Rattle.plan.proofs.Scans.{Listed, has-listed, listed-here, listed-end}
 use Rattle.trace.specs.Sources.{noSources, union}
 use Rattle.trace_sources.specs.Loops.{setAt, sourcesOf, changed, other, joined}
 

@@ -10,6 +10,7 @@ use lib.Dec.{eqb}
 use lib.ListN.{length}
 use denote.Enum.Declared.{tagOf}
 use types.Run.{OneOf}
+use Rattle.lists.proofs.Bools.{eqb-swap}
 use Rattle.sets.specs.declared.Set.{Set}
 use Rattle.sets.specs.Sets.{member}
 use Rattle.plan.specs.declared.Plan.{Plan}
@@ -21,7 +22,6 @@ use Rattle.plan.specs.Words.{readAt, decodedFrom, decoded}
 use Rattle.plan.specs.Check.{named}
 use Rattle.plan.specs.Sound.{Within, Passes, Tested}
 use Rattle.plan.specs.Resolved.{resolved}
-use Rattle.plan.proofs.Bools.{eqb-swap}
 use Rattle.plan.proofs.Answers.{rest-of}
 use Rattle.plan.proofs.Words.{decoded-on, decoded-bad, decoded-none}
 use Rattle.plan.proofs.Accepted.{pass-inside, pass-rest}

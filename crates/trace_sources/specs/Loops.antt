@@ -5,13 +5,13 @@ use mathlib.Core.Path.{_≡_}
 use mathlib.Core.Bool.{Bool, _||_, cond}
 use mathlib.Core.List.{List}
 use lib.ListN.{length, getD}
+use Rattle.lists.specs.Entries.{has}
 use Rattle.sets.specs.declared.Set.{Set}
 use Rattle.sets.specs.Sets.{member, members}
 use Rattle.plan.specs.declared.Plan.{Plan}
 use Rattle.plan.specs.declared.Span.{Span}
 use Rattle.plan.specs.declared.Step.{Step}
 use Rattle.plan.specs.declared.Step.the-variants.{Patch, Gain, Matrix, Clear, Send, Output}
-use Rattle.plan.specs.Check.{has}
 use Rattle.plan.specs.Sound.{Within, Inside, IndexList}
 
 -- ---- the areas: four words for each of 256 buffers, and for each of 32 slots

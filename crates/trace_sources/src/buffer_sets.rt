@@ -5,8 +5,8 @@ ghost use mathlib.Core.Bool.{false, cond};
 ghost use Prim.Native.Nat.{ℕ, _+_, _*_, _≤_};
 ghost use lib.Dec.{eqb};
 ghost use lib.ListN.{length};
+ghost use Rattle.lists.specs.Entries.{someFrom};
 ghost use Rattle.sets.specs.Sets.{member};
-ghost use Rattle.plan.specs.Check.{someFrom};
 ghost use Rattle.trace.specs.Sources.{union};
 ghost use Rattle.trace_sources.specs.Loops.{areaWords, setAt, sourcesOf, changed, other, joined};
 

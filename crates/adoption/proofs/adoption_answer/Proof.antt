@@ -2,8 +2,8 @@
 use mathlib.Core.Path.{_≡_, sym, _∙_}
 use mathlib.Core.Bool.{false, _||_}
 use native.Mathlib.Omega.{arith}
+use Rattle.lists.proofs.Bools.{or-none, or-is}
 use Rattle.node.specs.Areas.{Room}
-use Rattle.plan.proofs.Bools.{or-none, or-is}
 use Rattle.adoption.specs.Adoption.{Lent, lent, overNodes, shortNodes, badNodes}
 use Rattle.adoption.proofs.Answers.{enough, by-5, by-2, by-11, by-14, by-10, by-none}
 use borrow.Author.Needs.{needs}

@@ -1,7 +1,7 @@
 -- `builder_answers::buffers_answer` meets its contract. Assumes nothing.
 use mathlib.Core.Path.{_≡_, sym, _∙_}
 use mathlib.Core.Bool.{true, false}
-use Rattle.plan.proofs.Bools.{or-is}
+use Rattle.lists.proofs.Bools.{or-is}
 use Rattle.plan.specs.Limits.{unitLimits}
 use Rattle.builder.specs.Growth.{growsOver, growsPast, buffersGrowth}
 use Rattle.builder.specs.Calls.{buffersAnswer, lentIndices}

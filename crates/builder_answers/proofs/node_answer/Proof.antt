@@ -5,8 +5,8 @@ use Prim.Native.Nat.{_+_, _*_}
 use native.Mathlib.Omega.{arith}
 use borrow.Author.Tests.{ltb-false, lt-ltb, le-ltb}
 use lib.ListN.{length}
+use Rattle.lists.proofs.Bools.{or-none, or-is}
 use Rattle.node.specs.Sizes.{nodeFloats, nodeWords}
-use Rattle.plan.proofs.Bools.{or-none, or-is}
 use Rattle.plan.specs.Limits.{unitLimits}
 use Rattle.plan.specs.Areas.{shorter}
 use Rattle.builder.specs.Growth.{growsOver, growsPast, nodeGrowth}

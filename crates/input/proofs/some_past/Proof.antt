@@ -3,7 +3,7 @@ use mathlib.Core.Path.{_≡_, refl, sym, _∙_}
 use Prim.Native.Nat.{_≤_, _-_, _*_, _+_}
 use native.Mathlib.Omega.{arith}
 use borrow.Author.Tests.{lt-ltb, le-ltb}
-use Rattle.plan.proofs.Scans.{above, counted-yes, counted-no, counted-end}
+use Rattle.lists.proofs.Scans.{above, counted-yes, counted-no, counted-end}
 use Rattle.input.specs.Input.{somePast}
 use Rattle.input.proofs.Input.{past-counted}
 use borrow.Author.Needs.{needs}

@@ -3,8 +3,9 @@ use mathlib.Core.Path.{_≡_, refl, sym, _∙_}
 use Prim.Native.Nat.{_≤_}
 use native.Mathlib.Omega.{arith}
 use borrow.Author.Tests.{eq-eqb, ne-eqb}
+use Rattle.lists.proofs.Scans.{above, counted-yes, counted-no, counted-end}
 use Rattle.plan.specs.Check.{idAmong}
-use Rattle.plan.proofs.Scans.{above, among-counted, counted-yes, counted-no, counted-end}
+use Rattle.plan.proofs.Plans.{among-counted}
 use borrow.Author.Needs.{needs}
 use Rattle.plan_areas.proofs.id_among.Statement.{statement}
 use Rattle.plan_areas.proofs.id_among.Tie as tie

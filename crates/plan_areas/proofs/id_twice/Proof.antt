@@ -4,9 +4,9 @@ use Prim.Native.Nat.{_≤_}
 use native.Mathlib.Nat.{ne-of-lt}
 use native.Mathlib.Omega.{arith}
 use borrow.Author.Needs.{needs}
+use Rattle.lists.proofs.Scans.{above, counted-yes, counted-no, counted-end}
 use Rattle.plan.specs.Check.{idTwice}
-use Rattle.plan.proofs.Plans.{ids-none}
-use Rattle.plan.proofs.Scans.{above, twice-counted, counted-yes, counted-no, counted-end}
+use Rattle.plan.proofs.Plans.{ids-none, twice-counted}
 use Rattle.plan_areas.proofs.id_twice.Statement.{statement}
 use Rattle.plan_areas.proofs.id_twice.Tie as tie
 

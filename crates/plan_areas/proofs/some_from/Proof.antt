@@ -4,8 +4,8 @@ use Prim.Native.Nat.{_≤_, _-_}
 use native.Mathlib.Omega.{arith}
 use lib.ListN.{length, drop}
 use borrow.Author.Tests.{le-leb, lt-leb}
-use Rattle.plan.specs.Check.{someFrom}
-use Rattle.plan.proofs.Scans.{some-listed, listed-yes, listed-no, listed-end}
+use Rattle.lists.specs.Entries.{someFrom}
+use Rattle.lists.proofs.Scans.{some-listed, listed-yes, listed-no, listed-end}
 use borrow.Author.Needs.{needs}
 use Rattle.plan_areas.proofs.some_from.Statement.{statement}
 use Rattle.plan_areas.proofs.some_from.Tie as tie

@@ -5,9 +5,9 @@ use lib.ListN.{take}
 use lib.Seq.{length-take-le}
 use native.Mathlib.Omega.{arith}
 use borrow.Author.Needs.{needs}
+use Rattle.lists.specs.Entries.{someFrom}
 use Rattle.refusal.specs.declared.Answer.{Answer}
 use Rattle.plan.specs.Limits.{unitLimits, badBlock, overLimits}
-use Rattle.plan.specs.Check.{someFrom}
 use Rattle.plan.specs.Sound.{stepsOf}
 use Rattle.plan.specs.Loops.{channelsOf, counted}
 use Rattle.plan.proofs.Plans.{ListRoom, limits-none, lists-none}

@@ -4,8 +4,8 @@ use Prim.Native.Nat.{_≤_, _-_}
 use native.Mathlib.Omega.{arith}
 use borrow.Author.Needs.{needs}
 use lib.ListN.{length, drop}
-use Rattle.plan.specs.Check.{meet}
-use Rattle.plan.proofs.Scans.{meet-listed, listed-yes, listed-no, listed-end}
+use Rattle.lists.specs.Entries.{meet}
+use Rattle.lists.proofs.Scans.{meet-listed, listed-yes, listed-no, listed-end}
 use Rattle.plan_steps.proofs.lists_meet.Statement.{statement}
 use Rattle.plan_steps.proofs.lists_meet.Tie as tie
 

@@ -8,12 +8,12 @@ use native.Mathlib.Omega.{arith}
 use borrow.Author.Needs.{needs}
 use lib.Dec.{eqb}
 use lib.ListN.{length, getD, drop}
+use Rattle.lists.specs.Entries.{has}
+use Rattle.lists.proofs.Bools.{eqb-swap}
+use Rattle.lists.proofs.Entries.{some-none}
+use Rattle.lists.proofs.Scans.{has-listed, listed-here, listed-end}
 use Rattle.sets.specs.Sets.{member}
 use Rattle.sets.specs.declared.Set.{Set}
-use Rattle.plan.specs.Check.{has}
-use Rattle.plan.proofs.Bools.{eqb-swap}
-use Rattle.plan.proofs.Plans.{some-none}
-use Rattle.plan.proofs.Scans.{has-listed, listed-here, listed-end}
 use Rattle.plan_steps.proofs.set_of.Statement.{statement}
 use Rattle.plan_steps.proofs.set_of.Tie as tie
 

@@ -2,8 +2,8 @@
 -- buffers, and so below 256. Assumes nothing.
 use mathlib.Core.Path.{sym, ap, _∙_}
 use borrow.Author.Needs.{needs}
-use Rattle.plan.specs.Check.{someFrom}
-use Rattle.plan.proofs.Bools.{and-both}
+use Rattle.lists.specs.Entries.{someFrom}
+use Rattle.lists.proofs.Bools.{and-both}
 use Rattle.plan.proofs.Spans.{named-low, apart-none}
 use Rattle.plan_steps.proofs.spans_meet.Statement.{statement}
 use Rattle.plan_steps.proofs.spans_meet.Tie as tie

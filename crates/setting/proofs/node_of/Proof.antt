@@ -3,7 +3,7 @@ use mathlib.Core.Path.{_≡_, refl, sym, _∙_}
 use Prim.Native.Nat.{_≤_}
 use native.Mathlib.Omega.{arith}
 use borrow.Author.Tests.{eq-eqb, ne-eqb}
-use Rattle.plan.proofs.Scans.{above}
+use Rattle.lists.proofs.Scans.{above}
 use Rattle.setting.specs.Setting.{nodeOf}
 use Rattle.setting.proofs.Setting.{node-here, node-before, node-none}
 use borrow.Author.Needs.{needs}

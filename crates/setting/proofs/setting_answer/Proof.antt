@@ -2,7 +2,7 @@
 use mathlib.Core.Path.{sym, _∙_}
 use borrow.Author.Tests.{lt-ltb, le-ltb, not-true, not-false}
 use lib.ListN.{length}
-use Rattle.plan.proofs.Bools.{or-is}
+use Rattle.lists.proofs.Bools.{or-is}
 use Rattle.plan.specs.Areas.{shorter}
 use Rattle.setting.specs.Setting.{settingAnswer}
 use Rattle.setting.proofs.Setting.{Early, words-enough}

@@ -4,8 +4,8 @@ use mathlib.Core.Bool.{Bool, _||_}
 use mathlib.Core.List.{List}
 use Prim.Native.Nat.{ℕ}
 use borrow.Author.Needs.{needs}
+use Rattle.lists.specs.Entries.{someFrom, has}
 use Rattle.sets.specs.Sets.{member}
-use Rattle.plan.specs.Check.{someFrom, has}
 use Rattle.plan.proofs.Spans.{named-low}
 use Rattle.trace_clean.proofs.with_span.Statement.{statement}
 use Rattle.trace_clean.proofs.with_span.Tie as tie

@@ -4,7 +4,7 @@ use Prim.Native.Nat.{_-_}
 use native.Mathlib.Omega.{arith}
 use lib.ListN.{length}
 use borrow.Author.Needs.{needs}
-use Rattle.plan.proofs.Plans.{some-none}
+use Rattle.lists.proofs.Entries.{some-none}
 use Rattle.trace_sources.specs.Loops.{other}
 use Rattle.trace_sources.proofs.Stored.{Changing, changing-starts, changing-on, changing-ends, other-twice}
 use Rattle.trace_sources.proofs.buffer_sets.give.Statement.{statement}

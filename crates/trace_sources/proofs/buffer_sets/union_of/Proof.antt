@@ -5,9 +5,9 @@ use Prim.Native.Nat.{_-_, _≤_}
 use native.Mathlib.Omega.{arith}
 use lib.ListN.{length}
 use borrow.Author.Needs.{needs}
+use Rattle.lists.proofs.Entries.{some-none}
 use Rattle.sets.specs.declared.Set.{Set}
 use Rattle.sets.specs.Sets.{member}
-use Rattle.plan.proofs.Plans.{some-none}
 use Rattle.trace_sources.specs.Loops.{sourcesOf}
 use Rattle.trace_sources.proofs.Stored.{Joining, joining-starts, joining-on, joining-ends}
 use Rattle.trace_sources.proofs.buffer_sets.union_of.Statement.{statement}

@@ -3,7 +3,7 @@ use mathlib.Core.Path.{ap, _∙_}
 use mathlib.Core.List.{List}
 use Prim.Native.Nat.{ℕ}
 use borrow.Author.Needs.{needs}
-use Rattle.plan.specs.Check.{someFrom}
+use Rattle.lists.specs.Entries.{someFrom}
 use Rattle.plan.proofs.Spans.{named-low}
 use Rattle.trace.specs.Sources.{union}
 use Rattle.trace_sources.specs.Loops.{sourcesOf}

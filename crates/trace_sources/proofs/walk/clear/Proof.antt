@@ -2,7 +2,7 @@
 use mathlib.Core.Path.{ap, _∙_}
 use mathlib.Core.Bool.{false}
 use borrow.Author.Needs.{needs}
-use Rattle.plan.specs.Check.{someFrom}
+use Rattle.lists.specs.Entries.{someFrom}
 use Rattle.plan.proofs.Spans.{named-low}
 use Rattle.trace_sources.specs.Loops.{sourcesOf, other}
 use Rattle.trace_sources.proofs.Stored.{changed-as}

@@ -1,7 +1,8 @@
 -- `trace_sources::walk::replace` meets its contract. Assumes nothing.
 use mathlib.Core.Path.{ap, _∙_}
 use borrow.Author.Needs.{needs}
-use Rattle.plan.specs.Check.{someFrom, named}
+use Rattle.lists.specs.Entries.{someFrom}
+use Rattle.plan.specs.Check.{named}
 use Rattle.plan.proofs.Spans.{named-low}
 use Rattle.trace.specs.Sources.{union}
 use Rattle.trace_sources.specs.Loops.{sourcesOf, other}

@@ -2,7 +2,8 @@
 use mathlib.Core.Path.{ap, _∙_}
 use mathlib.Core.Bool.{Bool, _||_}
 use borrow.Author.Needs.{needs}
-use Rattle.plan.specs.Check.{someFrom, named}
+use Rattle.lists.specs.Entries.{someFrom}
+use Rattle.plan.specs.Check.{named}
 use Rattle.plan.proofs.Spans.{named-low}
 use Rattle.trace.specs.Sources.{union}
 use Rattle.trace_sources.specs.Loops.{sourcesOf, joined}

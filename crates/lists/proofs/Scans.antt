@@ -11,9 +11,8 @@ use native.Mathlib.Omega.{arith}
 use lib.ListN.{length, getD, drop}
 use lib.Seq.{drop-cons, drop-length}
 use lib.Dec.{leb, eqb}
-use Rattle.node.specs.Areas.{idAt}
-use Rattle.plan.specs.Check.{someFrom, idAmong, idTwice, has, meet}
-use Rattle.plan.proofs.Bools.{or-none}
+use Rattle.lists.specs.Entries.{someFrom, has, meet}
+use Rattle.lists.proofs.Bools.{or-none}
 
 -- ---- of the entries of a list, first to last
 pub record Listed (f : List ℕ → Bool) (t : ℕ → Bool) : Type 0 where
@@ -85,11 +84,3 @@ module _ {f t : ℕ → Bool} (c : Counted f t) where
   pub counted-none : (n : ℕ) → ((i : ℕ) → i < n → t i ≡ false) → f n ≡ false
   counted-none zero all = c .none
   counted-none (suc n) all = c .more n ∙ rw (all n (omega arith)) (counted-none n (λ (i : ℕ) (h : i < n). all i (omega arith)))
-
-pub among-counted : (words : List ℕ) (id : ℕ) → Counted (λ n. idAmong words n id) (λ n. eqb (idAt words n) id)
-unfolding idAmong
-among-counted words id = record { none = refl; more = λ n. refl }
-
-pub twice-counted : (words : List ℕ) → Counted (idTwice words) (λ n. idAmong words n (idAt words n))
-unfolding idTwice
-twice-counted words = record { none = refl; more = λ n. refl }

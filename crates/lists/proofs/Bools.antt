@@ -1,7 +1,7 @@
--- A disjunction that is false or true, one that code works out from its parts, a conjunction that is true, and a test of equality the other way
--- round. Assumes nothing.
+-- Tests joined by or, and: what each part is where the whole is false or true, the whole from its parts, and one that code works out from them; a test
+-- of equality the other way round. Assumes nothing.
 use mathlib.Core.Path.{_≡_, refl, sym}
-use mathlib.Core.Bool.{Bool, true, false, _||_, _&&_, true≢false}
+use mathlib.Core.Bool.{Bool, true, false, _||_, _&&_, true≢false, false≢true}
 use mathlib.Core.Logic.{_⊎_, inl, inr}
 use Prim.Native.Nat.{ℕ}
 use lib.Dec.{eqb}
@@ -21,6 +21,18 @@ or-is p q e = cc
 pub and-both : (a b : Bool) → (a && b) ≡ true → (a ≡ true) × (b ≡ true)
 and-both true b e = (refl, e)
 and-both false b e = absurd (true≢false (sym e))
+
+pub or-left : (a b : Bool) → a ≡ true → (a || b) ≡ true
+or-left true b e = refl
+or-left false b e = absurd (false≢true e)
+
+pub or-right : (a b : Bool) → b ≡ true → (a || b) ≡ true
+or-right true b e = refl
+or-right false b e = e
+
+pub and-intro : (a b : Bool) → a ≡ true → b ≡ true → (a && b) ≡ true
+and-intro true b e f = f
+and-intro false b e f = absurd (false≢true e)
 
 pub eqb-swap : (a b : ℕ) → eqb a b ≡ eqb b a
 eqb-swap a b = go (eqb a b) refl

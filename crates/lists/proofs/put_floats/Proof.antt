@@ -1,13 +1,13 @@
--- `builder_calls::areas::put_floats` meets its contract. The loop's invariant: the first i of the values are stored. Assumes nothing.
+-- `lists::put_floats` meets its contract. The loop's invariant: the first i of the values are stored. Assumes nothing.
 use Prim.Native.Nat.{_-_, _<_, _≤_}
 use mathlib.Core.Path.{_≡_, refl}
 use native.Mathlib.Omega.{arith}
 use lib.ListN.{length, take}
 use lib.Seq.{sets}
 use lib.Ieee.{nan}
 use Rattle.lists.proofs.Stores.{stores-turn, stores-length, stores-all}
-use Rattle.builder_calls.proofs.areas.put_floats.Statement.{statement}
-use Rattle.builder_calls.proofs.areas.put_floats.Tie as tie
+use Rattle.lists.proofs.put_floats.Statement.{statement}
+use Rattle.lists.proofs.put_floats.Tie as tie
 
 abbrev Inv-loop : tie.InvT-loop
 Inv-loop values at area₀ i₀ i-end area i = (i ≤ length values) × (area ≡ sets area₀ at (take i values))

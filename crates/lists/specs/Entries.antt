@@ -1,0 +1,25 @@
+-- What the entries of a list are. Definitions only.
+use Prim.Native.Nat.{ℕ, _<_}
+use mathlib.Core.Path.{_≡_}
+use mathlib.Core.Bool.{Bool, false, _||_}
+use mathlib.Core.List.{List, [], _∷_}
+use lib.Dec.{leb, eqb}
+use lib.ListN.{length, getD}
+
+-- an entry is n or above
+unfoldable pub someFrom : ℕ → List ℕ → Bool
+someFrom n [] = false
+someFrom n (x ∷ xs) = leb n x || someFrom n xs
+
+-- x is in a list; an entry of one list is in another
+unfoldable pub has : List ℕ → ℕ → Bool
+has [] x = false
+has (y ∷ ys) x = eqb y x || has ys x
+
+unfoldable pub meet : List ℕ → List ℕ → Bool
+meet [] ys = false
+meet (x ∷ xs) ys = has ys x || meet xs ys
+
+-- no entry of one list is an entry of the other
+abbrev pub Disjoint : List ℕ → List ℕ → Type 0
+Disjoint xs ys = (i j : ℕ) → i < length xs → j < length ys → getD xs i 0 ≡ getD ys j 0 → ⊥
