@@ -14,6 +14,11 @@ const ENTRY_WORDS: usize = 4;
 
 const MAX_ENTRIES: usize = 512;
 
+// A place for each input, and one that lies past the last entry of any directory.
+pub const FIRSTS: usize = Step::INPUTS as usize;
+
+pub const NO_ENTRY: u16 = MAX_ENTRIES as u16;
+
 // The samples from `start` on, `len` at most.
 fn part(samples: &[f32], start: usize, len: usize) -> &[f32]
     ensures { λ r. ⌜ now r ≡ part start len (now (samples .entry)) ⌝ }
@@ -29,9 +34,9 @@ fn part(samples: &[f32], start: usize, len: usize) -> &[f32]
     &samples[start..end]
 }
 
-// For each input a place before which no entry is for it: that of its first entry, or what was there where it has none. Requires at most 512
-// entries.
-pub fn first_entries(directory: &[u32], firsts: &mut [u16; 256])
+// For each input a place before which no entry is for it: that of its first entry, or what was there where it has none. Requires a
+// directory that is not too long.
+pub fn first_entries(directory: &[u32], firsts: &mut [u16; FIRSTS])
     requires { ⌜ (entries (now directory) ≤ maxEntries) × (length (now firsts) ≡ inputs) ⌝ }
     ensures { λ _. ⌜ Firsts (now (directory .entry)) (now (firsts .exit)) ⌝ }
 {

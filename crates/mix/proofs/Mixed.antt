@@ -101,16 +101,16 @@ module _ (f : ℕ → Float → Float → Float) (block s d : ℕ) (a : List Flo
       (begun-other block d n made a s (n + i) (pair .apart) (omega arith) (omega arith))
       ∙ ap (λ (v : Float). f (n + i) (sample block a s (n + i)) v) (begun-same block d n made a (n + i) (omega arith)))
 
-  pub pieces-start : a ≡ sets a (d * block) (sampled (16 * 0) made)
+  pub pieces-start : a ≡ sets a (d * block) (sampled (wholePiece * 0) made)
   pieces-start = none-stored made a (d * block)
 
-  pub piece-of-16 : (i : ℕ) {b c : List Float} → 16 * i + 16 ≤ block → b ≡ sets a (d * block) (sampled (16 * i) made)
-      → c ≡ mixedAt f (s * block + 16 * i) (d * block + 16 * i) 16 (16 * i) b → c ≡ sets a (d * block) (sampled (16 * (i + 1)) made)
-  piece-of-16 i h e g = let w : 16 * (i + 1) ≡ 16 * i + 16 = omega arith in rw w (piece-more (16 * i) 16 h e g)
+  pub whole-piece : (i : ℕ) {b c : List Float} → wholePiece * i + wholePiece ≤ block → b ≡ sets a (d * block) (sampled (wholePiece * i) made)
+      → c ≡ mixedAt f (s * block + wholePiece * i) (d * block + wholePiece * i) wholePiece (wholePiece * i) b → c ≡ sets a (d * block) (sampled (wholePiece * (i + 1)) made)
+  whole-piece i h e g = let w : wholePiece * (i + 1) ≡ wholePiece * i + wholePiece = omega arith in rw w (piece-more (wholePiece * i) wholePiece h e g)
 
-  pub all-pieces : (i : ℕ) {b : List Float} → 16 * i ≡ block → b ≡ sets a (d * block) (sampled (16 * i) made) → b ≡ put block d made a
+  pub all-pieces : (i : ℕ) {b : List Float} → wholePiece * i ≡ block → b ≡ sets a (d * block) (sampled (wholePiece * i) made) → b ≡ put block d made a
   all-pieces i h e = rw h at e
 
-  pub last-piece : (i : ℕ) {b c : List Float} → 16 * i ≤ block → b ≡ sets a (d * block) (sampled (16 * i) made)
-      → c ≡ mixedAt f (s * block + 16 * i) (d * block + 16 * i) (block - 16 * i) (16 * i) b → c ≡ put block d made a
-  last-piece i h e g = let w : 16 * i + (block - 16 * i) ≡ block = omega arith in rw w at (piece-more (16 * i) (block - 16 * i) (omega arith) e g)
+  pub last-piece : (i : ℕ) {b c : List Float} → wholePiece * i ≤ block → b ≡ sets a (d * block) (sampled (wholePiece * i) made)
+      → c ≡ mixedAt f (s * block + wholePiece * i) (d * block + wholePiece * i) (block - wholePiece * i) (wholePiece * i) b → c ≡ put block d made a
+  last-piece i h e g = let w : wholePiece * i + (block - wholePiece * i) ≡ block = omega arith in rw w at (piece-more (wholePiece * i) (block - wholePiece * i) (omega arith) e g)

@@ -27,9 +27,9 @@ module _ (g : Gain) (k : ℕ) (x y : Float) where
   is-added h = rw h
 
 -- what starts at the samples of a new local starts at +0
-pub from-silence : {H : ℕ → Float} (f : ℕ → Float → Float) (m : ℕ) → m ≤ 16 → ((i : ℕ) → i < m → H i ≡ f i (getD (replicate 16 silence) i nan))
+pub from-silence : {H : ℕ → Float} (f : ℕ → Float → Float) (m : ℕ) → m ≤ wholePiece → ((i : ℕ) → i < m → H i ≡ f i (getD (replicate wholePiece silence) i nan))
     → (i : ℕ) → i < m → H i ≡ f i silence
-from-silence f m h e i l = e i l ∙ ap (λ (y : Float). f i y) (getD-replicate 16 i silence nan (omega arith))
+from-silence f m h e i l = e i l ∙ ap (λ (y : Float). f i y) (getD-replicate wholePiece i silence nan (omega arith))
 
 module _ (block : ℕ) (gain : ℕ → Gain) where
   -- ---- the columns, one after the other over the whole buffer, are one sum at each sample
@@ -58,7 +58,7 @@ module _ (block : ℕ) (gain : ℕ → Gain) where
       ap (λ (x : Float). rowSample block gain (suc v) src b k (added (gain v) k x y)) (h 0 (omega arith))
       ∙ row-same (suc v) src a b k (added (gain v) k (sample block a s k) y) (λ i l. h (suc i) (omega arith))
 
-  -- ---- the columns of a piece in a local t: none, one more, and all
+  -- ---- the columns of a wholePiece in a local t: none, one more, and all
   module _ (v : ℕ) (src : List ℕ) (area : List Float) (j m : ℕ) (t₀ : List Float) where
     -- what is left to do from column c on makes what there is to do in all
     unfoldable pub Left : ℕ → List Float → Type 0
@@ -96,7 +96,7 @@ module _ (block : ℕ) (gain : ℕ → Gain) where
     abbrev made : ℕ → Float
     made k = rowSample block gain v src a k silence
 
-    pub row-start : a ≡ sets a (d * block) (sampled (16 * 0) made)
+    pub row-start : a ≡ sets a (d * block) (sampled (wholePiece * 0) made)
     row-start = none-stored made a (d * block)
 
     pub row-piece : (n m : ℕ) {b c : List Float} → n + m ≤ block → b ≡ sets a (d * block) (sampled n made)
@@ -108,10 +108,10 @@ module _ (block : ℕ) (gain : ℕ → Gain) where
         ∙ row-same v src a (sets a (d * block) (sampled n made)) (n + i) silence
         (λ j q. begun-other block d n made a (getD src j 0) (n + i) (λ w. row .apart j q (sym w)) (omega arith) (omega arith)))
 
-    pub row-piece-of-16 : (i : ℕ) {b c : List Float} → 16 * i + 16 ≤ block → b ≡ sets a (d * block) (sampled (16 * i) made)
-        → c ≡ sets b (d * block + 16 * i) (sampled 16 (λ k. rowSample block gain v src b (16 * i + k) silence))
-        → c ≡ sets a (d * block) (sampled (16 * (i + 1)) made)
-    row-piece-of-16 i h e g = let w : 16 * (i + 1) ≡ 16 * i + 16 = omega arith in rw w (row-piece (16 * i) 16 h e g)
+    pub row-whole-piece : (i : ℕ) {b c : List Float} → wholePiece * i + wholePiece ≤ block → b ≡ sets a (d * block) (sampled (wholePiece * i) made)
+        → c ≡ sets b (d * block + wholePiece * i) (sampled wholePiece (λ k. rowSample block gain v src b (wholePiece * i + k) silence))
+        → c ≡ sets a (d * block) (sampled (wholePiece * (i + 1)) made)
+    row-whole-piece i h e g = let w : wholePiece * (i + 1) ≡ wholePiece * i + wholePiece = omega arith in rw w (row-piece (wholePiece * i) wholePiece h e g)
 
     pub row-done : {b : List Float} (n : ℕ) → n ≡ block → b ≡ sets a (d * block) (sampled n made)
         → b ≡ columns block gain v src d (clearBuffer block d a)

@@ -13,6 +13,10 @@ use Rattle.node.specs.Nodes.{factor}
 use Rattle.mix.specs.Samples.{sample, sampled}
 use Rattle.mix.specs.Mix.{added}
 
+-- the samples of a whole piece
+abbrev pub wholePiece : ℕ
+wholePiece = 16
+
 -- the samples before n are all on the ramp of a gain that moves
 unfoldable pub ramping : Gain → ℕ → Bool
 ramping (Rest t) n = false
@@ -44,5 +48,5 @@ mixedAt f from to m k area = sets area to (sampled m (λ i. f (k + i) (getD area
 pub record Piece (from to m k : ℕ) (area : List Float) : Type 0 where
   pub source : from + m ≤ length area
   pub target : to + m ≤ length area
-  pub short : m ≤ 16
+  pub short : m ≤ wholePiece
   pub within : k + m ≤ maxRamp

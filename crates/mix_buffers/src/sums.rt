@@ -1,4 +1,5 @@
 // Matrix. A row is made piece by piece, all its columns at each piece, so that it is stored once; each sample sees the sources in order.
+use mix_samples::PIECE;
 use mix_samples::add_samples;
 use mix_samples::is_silent;
 use mix_samples::later;
@@ -13,14 +14,14 @@ ghost use Rattle.node.specs.Sizes.{maxRamp};
 ghost use Rattle.node.specs.Nodes.{gainAt};
 ghost use Rattle.mix.specs.Samples.{silence, sampled};
 ghost use Rattle.mix.specs.Mix.{added, clearBuffer, columns, rows, Inside, AllInside, Row, Buffers, Values};
-ghost use Rattle.mix.specs.Loops.{rowSample};
+ghost use Rattle.mix.specs.Loops.{wholePiece, rowSample};
 
-// The m samples from p on added to the first m of t, by a gain from sample j on; a gain at rest equal to 0 is skipped. Requires at most 16
-// samples of a block, within the area.
-fn add_part(area: &[f32], p: usize, m: usize, t: &mut [f32; 16], j: usize, g: Gain)
-    requires { ⌜ (p + m ≤ length (now area)) × (m ≤ 16) ⌝ }
-    requires { ⌜ (j + m ≤ maxRamp) × (length (now t) ≡ 16) ⌝ }
-    ensures { λ _. ⌜ length (now (t .exit)) ≡ 16 ⌝ }
+// The m samples from p on added to the first m of t, by a gain from sample j on; a gain at rest equal to 0 is skipped. Requires at most a piece
+// of a block, within the area.
+fn add_part(area: &[f32], p: usize, m: usize, t: &mut [f32; PIECE], j: usize, g: Gain)
+    requires { ⌜ (p + m ≤ length (now area)) × (m ≤ wholePiece) ⌝ }
+    requires { ⌜ (j + m ≤ maxRamp) × (length (now t) ≡ wholePiece) ⌝ }
+    ensures { λ _. ⌜ length (now (t .exit)) ≡ wholePiece ⌝ }
     ensures { λ _. ⌜ ((i : ℕ) → i < m → getD (now (t .exit)) i nan ≡ added g (j + i) (getD (now (area .entry)) (p + i) nan) (getD (now (t .entry)) i nan)) ⌝ }
 {
     if is_silent(g) {
@@ -29,11 +30,11 @@ fn add_part(area: &[f32], p: usize, m: usize, t: &mut [f32; 16], j: usize, g: Ga
     add_samples(&area[p..p + m], t, j, later(g, j as u32));
 }
 
-// Samples j to j + m of a row, added to the first m of t, by the gains from value v on. Requires at most 16 samples of a block, sources
+// Samples j to j + m of a row, added to the first m of t, by the gains from value v on. Requires at most a piece of a block, sources
 // within the area, and a value for each.
 fn sum_columns(
     area: &[f32],
-    t: &mut [f32; 16],
+    t: &mut [f32; PIECE],
     block: usize,
     src: &[u32],
     cur: &[f32],
@@ -45,9 +46,9 @@ fn sum_columns(
     m: usize,
 )
     requires { ⌜ Values (v + length (now src)) (now cur) (now step) (now target) ⌝ }
-    requires { ⌜ (j + m ≤ block) × (block ≤ maxRamp) × (m ≤ 16) × (length (now t) ≡ 16) ⌝ }
+    requires { ⌜ (j + m ≤ block) × (block ≤ maxRamp) × (m ≤ wholePiece) × (length (now t) ≡ wholePiece) ⌝ }
     requires { ⌜ AllInside block (now src) (now area) ⌝ }
-    ensures { λ _. ⌜ length (now (t .exit)) ≡ 16 ⌝ }
+    ensures { λ _. ⌜ length (now (t .exit)) ≡ wholePiece ⌝ }
     ensures { λ _. ⌜ ((i : ℕ) → i < m → getD (now (t .exit)) i nan ≡ rowSample block (gainAt (now (cur .entry)) (now (step .entry)) (now (target .entry)) left) v (now (src .entry)) (now (area .entry)) (j + i) (getD (now (t .entry)) i nan)) ⌝ }
 {
     for c in 0..src.len() {
@@ -73,11 +74,11 @@ fn sum_piece(
     m: usize,
 )
     requires { ⌜ Values (v + length (now src)) (now cur) (now step) (now target) ⌝ }
-    requires { ⌜ (j + m ≤ block) × (block ≤ maxRamp) × (m ≤ 16) × Inside block d (now area) ⌝ }
+    requires { ⌜ (j + m ≤ block) × (block ≤ maxRamp) × (m ≤ wholePiece) × Inside block d (now area) ⌝ }
     requires { ⌜ AllInside block (now src) (now area) ⌝ }
     ensures { λ _. ⌜ now (area .exit) ≡ sets (now (area .entry)) (d * block + j) (sampled m (λ i. rowSample block (gainAt (now (cur .entry)) (now (step .entry)) (now (target .entry)) left) v (now (src .entry)) (now (area .entry)) (j + i) silence)) ⌝ }
 {
-    let mut t = [0.0f32; 16];
+    let mut t = [0.0f32; PIECE];
     sum_columns(
         &area[..],
         &mut t,
@@ -111,11 +112,23 @@ fn matrix_row(
     requires { ⌜ Row block (now src) d (now area) ⌝ }
     ensures { λ _. ⌜ now (area .exit) ≡ columns block (gainAt (now (cur .entry)) (now (step .entry)) (now (target .entry)) left) v (now (src .entry)) d (clearBuffer block d (now (area .entry))) ⌝ }
 {
-    let e = block / 16;
+    let e = block / PIECE;
     for i in 0..e {
-        sum_piece(area, block, src, d, cur, step, target, left, v, 16 * i, 16);
+        sum_piece(
+            area,
+            block,
+            src,
+            d,
+            cur,
+            step,
+            target,
+            left,
+            v,
+            PIECE * i,
+            PIECE,
+        );
     }
-    let r = 16 * e;
+    let r = PIECE * e;
     if r == block {
         return;
     }

@@ -6,6 +6,7 @@ mod samples;
 pub use pieces::add_into;
 pub use pieces::scale_into;
 pub use pieces::weigh_into;
+pub use samples::PIECE;
 pub use samples::add_samples;
 pub use samples::copy;
 pub use samples::fill;

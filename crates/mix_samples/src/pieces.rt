@@ -1,5 +1,6 @@
-// One buffer into another, in pieces of 16 samples and a last one: the source's part is handed on to the loop, and the destination's samples go
+// One buffer into another, in whole pieces and a last one: the source's part is handed on to the loop, and the destination's samples go
 // through a local, since two parts of one area cannot be lent at once.
+use crate::samples::PIECE;
 use crate::samples::add_samples;
 use crate::samples::later;
 use crate::samples::load;
@@ -12,12 +13,12 @@ ghost use Rattle.mix.specs.Samples.{sample, put};
 ghost use Rattle.mix.specs.Mix.{Pair, scaled, scale};
 ghost use Rattle.mix.specs.Loops.{plusScaled, plusWeighted, mixedAt, Piece};
 
-// d = s × gain for m samples, from sample k on. Requires at most 16 of a block, with both parts within the area.
+// d = s × gain for m samples, from sample k on. Requires at most a piece of a block, with both parts within the area.
 fn scale_piece(area: &mut [f32], from: usize, to: usize, m: usize, k: usize, g: Gain)
     requires { ⌜ Piece from to m k (now area) ⌝ }
     ensures { λ _. ⌜ now (area .exit) ≡ mixedAt (λ k x y. scaled g k x) from to m k (now (area .entry)) ⌝ }
 {
-    let mut t = [0.0f32; 16];
+    let mut t = [0.0f32; PIECE];
     scale_samples(&area[from..from + m], &mut t, k, later(g, k as u32));
     store(&t, area, to, m);
 }
@@ -29,11 +30,11 @@ pub fn scale_into(area: &mut [f32], block: usize, s: usize, d: usize, g: Gain)
 {
     let from = s * block;
     let to = d * block;
-    let e = block / 16;
+    let e = block / PIECE;
     for i in 0..e {
-        scale_piece(area, from + 16 * i, to + 16 * i, 16, 16 * i, g);
+        scale_piece(area, from + PIECE * i, to + PIECE * i, PIECE, PIECE * i, g);
     }
-    let r = 16 * e;
+    let r = PIECE * e;
     if r == block {
         return;
     }
@@ -45,7 +46,7 @@ fn add_piece(area: &mut [f32], from: usize, to: usize, m: usize, k: usize, g: Ga
     requires { ⌜ Piece from to m k (now area) ⌝ }
     ensures { λ _. ⌜ now (area .exit) ≡ mixedAt (plusScaled g) from to m k (now (area .entry)) ⌝ }
 {
-    let mut t = [0.0f32; 16];
+    let mut t = [0.0f32; PIECE];
     load(&area[to..to + m], &mut t);
     add_samples(&area[from..from + m], &mut t, k, later(g, k as u32));
     store(&t, area, to, m);
@@ -58,11 +59,11 @@ pub fn add_into(area: &mut [f32], block: usize, s: usize, d: usize, g: Gain)
 {
     let from = s * block;
     let to = d * block;
-    let e = block / 16;
+    let e = block / PIECE;
     for i in 0..e {
-        add_piece(area, from + 16 * i, to + 16 * i, 16, 16 * i, g);
+        add_piece(area, from + PIECE * i, to + PIECE * i, PIECE, PIECE * i, g);
     }
-    let r = 16 * e;
+    let r = PIECE * e;
     if r == block {
         return;
     }
@@ -74,7 +75,7 @@ fn weigh_piece(area: &mut [f32], from: usize, to: usize, m: usize, k: usize, w: 
     requires { ⌜ Piece from to m k (now area) ⌝ }
     ensures { λ _. ⌜ now (area .exit) ≡ mixedAt (plusWeighted w g) from to m k (now (area .entry)) ⌝ }
 {
-    let mut t = [0.0f32; 16];
+    let mut t = [0.0f32; PIECE];
     load(&area[to..to + m], &mut t);
     weigh_samples(&area[from..from + m], &mut t, k, w, later(g, k as u32));
     store(&t, area, to, m);
@@ -87,11 +88,19 @@ pub fn weigh_into(area: &mut [f32], block: usize, s: usize, d: usize, w: f32, g:
 {
     let from = s * block;
     let to = d * block;
-    let e = block / 16;
+    let e = block / PIECE;
     for i in 0..e {
-        weigh_piece(area, from + 16 * i, to + 16 * i, 16, 16 * i, w, g);
+        weigh_piece(
+            area,
+            from + PIECE * i,
+            to + PIECE * i,
+            PIECE,
+            PIECE * i,
+            w,
+            g,
+        );
     }
-    let r = 16 * e;
+    let r = PIECE * e;
     if r == block {
         return;
     }

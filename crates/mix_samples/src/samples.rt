@@ -10,7 +10,10 @@ ghost use Rattle.node.specs.Sizes.{maxRamp};
 ghost use Rattle.node.specs.Nodes.{factor};
 ghost use Rattle.mix.specs.Samples.{silence, sampled};
 ghost use Rattle.mix.specs.Mix.{silent, scaled};
-ghost use Rattle.mix.specs.Loops.{ramping, plusScaled, plusWeighted, mixedInto};
+ghost use Rattle.mix.specs.Loops.{wholePiece, ramping, plusScaled, plusWeighted, mixedInto};
+
+// The samples of a whole piece: as many as stay in registers.
+pub const PIECE: usize = 16;
 
 // One of two values. Both are worked out before, so that LLVM makes a select of it and the sample loops stay without a branch.
 fn either(first: bool, x: f32, y: f32) -> f32
@@ -74,11 +77,11 @@ pub fn is_silent(g: Gain) -> bool
     }
 }
 
-// y[i] = x[i] * gain, where x starts at sample k. Requires at most 16 samples of a block.
-pub fn scale_samples(x: &[f32], y: &mut [f32; 16], k: usize, g: Gain)
-    requires { ⌜ (length (now x) ≤ 16) × (k + length (now x) ≤ maxRamp) ⌝ }
-    requires { ⌜ length (now y) ≡ 16 ⌝ }
-    ensures { λ _. ⌜ length (now (y .exit)) ≡ 16 ⌝ }
+// y[i] = x[i] * gain, where x starts at sample k. Requires at most a piece of a block.
+pub fn scale_samples(x: &[f32], y: &mut [f32; PIECE], k: usize, g: Gain)
+    requires { ⌜ (length (now x) ≤ wholePiece) × (k + length (now x) ≤ maxRamp) ⌝ }
+    requires { ⌜ length (now y) ≡ wholePiece ⌝ }
+    ensures { λ _. ⌜ length (now (y .exit)) ≡ wholePiece ⌝ }
     ensures { λ _. ⌜ now (y .exit) ≡ mixedInto (λ k x y. scaled g k x) k (length (now (x .entry))) (now (x .entry)) (now (y .entry)) ⌝ }
 {
     let whole = on_ramp(g, k + x.len());
@@ -87,11 +90,11 @@ pub fn scale_samples(x: &[f32], y: &mut [f32; 16], k: usize, g: Gain)
     }
 }
 
-// y[i] += x[i] * gain, where x starts at sample k. Requires at most 16 samples of a block.
-pub fn add_samples(x: &[f32], y: &mut [f32; 16], k: usize, g: Gain)
-    requires { ⌜ (length (now x) ≤ 16) × (k + length (now x) ≤ maxRamp) ⌝ }
-    requires { ⌜ length (now y) ≡ 16 ⌝ }
-    ensures { λ _. ⌜ length (now (y .exit)) ≡ 16 ⌝ }
+// y[i] += x[i] * gain, where x starts at sample k. Requires at most a piece of a block.
+pub fn add_samples(x: &[f32], y: &mut [f32; PIECE], k: usize, g: Gain)
+    requires { ⌜ (length (now x) ≤ wholePiece) × (k + length (now x) ≤ maxRamp) ⌝ }
+    requires { ⌜ length (now y) ≡ wholePiece ⌝ }
+    ensures { λ _. ⌜ length (now (y .exit)) ≡ wholePiece ⌝ }
     ensures { λ _. ⌜ now (y .exit) ≡ mixedInto (plusScaled g) k (length (now (x .entry))) (now (x .entry)) (now (y .entry)) ⌝ }
 {
     let whole = on_ramp(g, k + x.len());
@@ -100,11 +103,11 @@ pub fn add_samples(x: &[f32], y: &mut [f32; 16], k: usize, g: Gain)
     }
 }
 
-// y[i] += x[i] * w * gain, where x starts at sample k. Requires at most 16 samples of a block.
-pub fn weigh_samples(x: &[f32], y: &mut [f32; 16], k: usize, w: f32, g: Gain)
-    requires { ⌜ (length (now x) ≤ 16) × (k + length (now x) ≤ maxRamp) ⌝ }
-    requires { ⌜ length (now y) ≡ 16 ⌝ }
-    ensures { λ _. ⌜ length (now (y .exit)) ≡ 16 ⌝ }
+// y[i] += x[i] * w * gain, where x starts at sample k. Requires at most a piece of a block.
+pub fn weigh_samples(x: &[f32], y: &mut [f32; PIECE], k: usize, w: f32, g: Gain)
+    requires { ⌜ (length (now x) ≤ wholePiece) × (k + length (now x) ≤ maxRamp) ⌝ }
+    requires { ⌜ length (now y) ≡ wholePiece ⌝ }
+    ensures { λ _. ⌜ length (now (y .exit)) ≡ wholePiece ⌝ }
     ensures { λ _. ⌜ now (y .exit) ≡ mixedInto (plusWeighted w g) k (length (now (x .entry))) (now (x .entry)) (now (y .entry)) ⌝ }
 {
     let whole = on_ramp(g, k + x.len());
@@ -113,11 +116,11 @@ pub fn weigh_samples(x: &[f32], y: &mut [f32; 16], k: usize, w: f32, g: Gain)
     }
 }
 
-// y starts with x. Requires at most 16 samples.
-pub fn load(x: &[f32], y: &mut [f32; 16])
-    requires { ⌜ length (now x) ≤ 16 ⌝ }
-    requires { ⌜ length (now y) ≡ 16 ⌝ }
-    ensures { λ _. ⌜ length (now (y .exit)) ≡ 16 ⌝ }
+// y starts with x. Requires at most a piece.
+pub fn load(x: &[f32], y: &mut [f32; PIECE])
+    requires { ⌜ length (now x) ≤ wholePiece ⌝ }
+    requires { ⌜ length (now y) ≡ wholePiece ⌝ }
+    ensures { λ _. ⌜ length (now (y .exit)) ≡ wholePiece ⌝ }
     ensures { λ _. ⌜ now (y .exit) ≡ mixedInto (λ k x y. x) 0 (length (now (x .entry))) (now (x .entry)) (now (y .entry)) ⌝ }
 {
     for i in 0..x.len() {
@@ -125,10 +128,10 @@ pub fn load(x: &[f32], y: &mut [f32; 16])
     }
 }
 
-// The first m of t, in the area from `to` on. Requires at most 16 samples, within the area.
-pub fn store(t: &[f32; 16], area: &mut [f32], to: usize, m: usize)
-    requires { ⌜ (to + m ≤ length (now area)) × (m ≤ 16) ⌝ }
-    requires { ⌜ length (now t) ≡ 16 ⌝ }
+// The first m of t, in the area from `to` on. Requires at most a piece, within the area.
+pub fn store(t: &[f32; PIECE], area: &mut [f32], to: usize, m: usize)
+    requires { ⌜ (to + m ≤ length (now area)) × (m ≤ wholePiece) ⌝ }
+    requires { ⌜ length (now t) ≡ wholePiece ⌝ }
     ensures { λ _. ⌜ now (area .exit) ≡ sets (now (area .entry)) to (sampled m (λ i. getD (now (t .entry)) i nan)) ⌝ }
 {
     copy(&t[..], &mut area[to..to + m]);

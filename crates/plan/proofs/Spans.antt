@@ -16,6 +16,7 @@ use Rattle.lists.proofs.Bools.{or-some}
 use Rattle.lists.proofs.Entries.{some-none, some-more, entries-none, meet-none}
 use Rattle.plan.specs.declared.Plan.{Plan}
 use Rattle.plan.specs.declared.Span.{Span}
+use Rattle.plan.specs.Limits.{unitLimits}
 use Rattle.plan.specs.Check.{named, used, firstOf}
 use Rattle.plan.specs.Sound.{Within, IndexList}
 use Rattle.plan.specs.Loops.{Ascending, spanBefore}
@@ -38,10 +39,10 @@ module _ (indices : List ℕ) (s : Span) where
           let k : i < min (s .len) (length indices - s .start) = rw (length-take, length-drop) at l in
           rw (named-at i (omega arith)) (entries-none n count indices .0 e (s .start + i) (omega arith) (omega arith))
 
--- below 256, of an index list that was tested
-pub named-low : (p : Plan) (indices : List ℕ) → IndexList p indices → (s : Span) → Within (p .indices) s → someFrom 256 (named indices s) ≡ false
+-- buffers that a plan can have, of an index list that was tested
+pub named-low : (p : Plan) (indices : List ℕ) → IndexList p indices → (s : Span) → Within (p .indices) s → someFrom (unitLimits .buffers) (named indices s) ≡ false
 named-low p indices l s h =
-    some-more (p .buffers) 256 (named indices s) (l .few) (named-below indices s (p .buffers) (p .indices) (l .entries) h)
+    some-more (p .buffers) (unitLimits .buffers) (named indices s) (l .few) (named-below indices s (p .buffers) (p .indices) (l .entries) h)
 
 -- the used channels of a Gain are the first of each span
 module _ (n : ℕ) (s d : Span) where

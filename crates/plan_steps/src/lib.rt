@@ -9,7 +9,7 @@ ghost use mathlib.Core.Bool.{true, false, _||_};
 ghost use Prim.Native.Nat.{ℕ, _+_, _*_, _<_, _≤_};
 ghost use lib.ListN.{length};
 ghost use Rattle.lists.specs.Entries.{someFrom, has, meet};
-ghost use Rattle.sets.specs.Sets.{member};
+ghost use Rattle.sets.specs.Sets.{member, setSize};
 ghost use Rattle.plan.specs.Check.{past, named, outside, used, firstOf, tooWide, shares};
 ghost use Rattle.plan.specs.Sound.{Within, IndexList};
 ghost use Rattle.plan.specs.Loops.{Ascending, spanBefore, channels};
@@ -146,7 +146,7 @@ pub fn numbers(indices: &[u32], span: Span) -> &[u32]
 
 // The entries of a list. Requires entries below 256.
 pub fn set_of(list: &[u32]) -> Set
-    requires { ⌜ someFrom 256 (now list) ≡ false ⌝ }
+    requires { ⌜ someFrom setSize (now list) ≡ false ⌝ }
     ensures { λ r. ⌜ ((j : ℕ) → member r j ≡ has (now (list .entry)) j) ⌝ }
 {
     let mut set = Set::empty();
@@ -160,7 +160,7 @@ pub fn set_of(list: &[u32]) -> Set
 
 // An entry of one list is in the other. Requires entries of the second below 256.
 fn lists_meet(xs: &[u32], ys: &[u32]) -> bool
-    requires { ⌜ someFrom 256 (now ys) ≡ false ⌝ }
+    requires { ⌜ someFrom setSize (now ys) ≡ false ⌝ }
     ensures { λ r. ⌜ r ≡ meet (now (xs .entry)) (now (ys .entry)) ⌝ }
 {
     let set = set_of(ys);

@@ -139,7 +139,7 @@ pub fn run_block(
         ≡ runSteps (plan .block) (lookup (now (directory .entry)) (now (samples .entry))) (map (resolved (now (indices .entry)) (now (coefficients .entry))) (decoded (now (steps .entry)) (plan .steps))) (state (now (floats .entry)) (now (words .entry)) (now (buffers .entry)) (now (output .entry)) 0) ⌝ }
 {
     // So that a Patch starts at the first entry of its input; an input without one has a place past the last entry.
-    let mut firsts = [512u16; 256];
+    let mut firsts = [input::NO_ENTRY; input::FIRSTS];
     input::first_entries(directory, &mut firsts);
     run_steps(
         plan,

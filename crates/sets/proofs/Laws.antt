@@ -9,7 +9,7 @@ use lib.Bits.{bitOr}
 use lib.ListN.{length, getD}
 use borrow.Author.Tests.{eqb-true, eqb-false, eq-eqb, ne-eqb}
 use Rattle.sets.specs.declared.Set.{Set}
-use Rattle.sets.specs.Sets.{bit, words, member, sift, members, only}
+use Rattle.sets.specs.Sets.{bit, words, member, sift, members, only, setSize}
 use Rattle.sets.proofs.Sift.{sift-same, length-sift}
 use Rattle.sets.proofs.Bits.{bit-zero, bit-power, bit-or}
 
@@ -46,7 +46,7 @@ member-union a b j =
 abbrev pub single : ℕ → Set
 single i = set (only i 0) (only i 1) (only i 2) (only i 3)
 
-member-single : (i j : ℕ) → i < 256 → member (single i) j ≡ eqb j i
+member-single : (i j : ℕ) → i < setSize → member (single i) j ≡ eqb j i
 unfolding member
 member-single i j h =
     ap (λ (w : ℕ). bit w (j % 64)) (by-word (λ k. getD (words (single i)) k 0 ≡ only i k) refl refl refl refl past (j / 64))
@@ -63,14 +63,14 @@ member-single i j h =
     go true e = bit-power (i % 64) (j % 64) ∙ same (eqb-true (i / 64) (j / 64) e) (eqb (j % 64) (i % 64)) refl
     go false e = bit-zero (j % 64) ∙ sym (ne-eqb j i (λ g. eqb-false (i / 64) (j / 64) e (omega arith)))
 
-pub member-with : (s : Set) (i j : ℕ) → i < 256 → member (union s (single i)) j ≡ (member s j || eqb j i)
+pub member-with : (s : Set) (i j : ℕ) → i < setSize → member (union s (single i)) j ≡ (member s j || eqb j i)
 member-with s i j h = member-union s (single i) j ∙ ap (λ (b : Bool). member s j || b) (member-single i j h)
 
 -- ---- the list of the members
 module _ (s : Set) where
-  pub length-members-le : length (members s) ≤ 256
-  length-members-le = length-sift (member s) 0 256
+  pub length-members-le : length (members s) ≤ setSize
+  length-members-le = length-sift (member s) 0 setSize
 
   -- a set whose members are the numbers that pass a test
-  pub members-sift : (p : ℕ → Bool) → ((i : ℕ) → i < 256 → member s i ≡ p i) → sift p 0 256 ≡ members s
-  members-sift p h = sift-same p (member s) 0 256 (λ i g l. sym (h i l))
+  pub members-sift : (p : ℕ → Bool) → ((i : ℕ) → i < setSize → member s i ≡ p i) → sift p 0 setSize ≡ members s
+  members-sift p h = sift-same p (member s) 0 setSize (λ i g l. sym (h i l))

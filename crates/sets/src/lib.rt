@@ -8,7 +8,7 @@ ghost use Prim.Native.Nat.{ℕ, _+_, _<_, _≤_};
 ghost use lib.Dec.{eqb};
 ghost use lib.ListN.{length, drop, getD};
 ghost use lib.Seq.{sets};
-ghost use Rattle.sets.specs.Sets.{words, member, members, only, places};
+ghost use Rattle.sets.specs.Sets.{words, member, members, only, places, setSize};
 
 // The number i is in the set where bit i % 64 of word i / 64 is 1.
 pub struct Set {
@@ -59,7 +59,7 @@ impl Set {
 
     // The set with i too. Requires an i below 256.
     pub fn with(self, i: u32) -> Set
-        requires { ⌜ i < 256 ⌝ }
+        requires { ⌜ i < setSize ⌝ }
         ensures { λ r. ⌜ ((j : ℕ) → member r j ≡ (member self j || eqb j i)) ⌝ }
     {
         Set {

@@ -12,19 +12,24 @@ use Rattle.plan.specs.declared.Plan.{Plan}
 use Rattle.plan.specs.declared.Span.{Span}
 use Rattle.plan.specs.declared.Step.{Step}
 use Rattle.plan.specs.declared.Step.the-variants.{Patch, Gain, Matrix, Clear, Send, Output}
+use Rattle.plan.specs.Limits.{slots, unitLimits}
 use Rattle.plan.specs.Sound.{Within, Inside, IndexList}
 
--- ---- the areas: four words for each of 256 buffers, and for each of 32 slots
+-- ---- the areas: the words of a set for each buffer that a plan can have, and for each slot
+
+abbrev pub setWords : ℕ
+setWords = 4
 
 abbrev pub areaWords : ℕ
-areaWords = 1024
+areaWords = unitLimits .buffers * setWords
 
 abbrev pub slotWords : ℕ
-slotWords = 128
+slotWords = slots * setWords
 
 abbrev pub setAt : List ℕ → ℕ → Set
 setAt area b =
-    record { w0 = getD area (b * 4) 0; w1 = getD area (b * 4 + 1) 0; w2 = getD area (b * 4 + 2) 0; w3 = getD area (b * 4 + 3) 0 }
+    let k : ℕ = b * setWords in
+    record { w0 = getD area k 0; w1 = getD area (k + 1) 0; w2 = getD area (k + 2) 0; w3 = getD area (k + 3) 0 }
 
 -- its sets, as the definition of the trace has them: whether input i is in the set of buffer b
 abbrev pub sourcesOf : List ℕ → ℕ → ℕ → Bool

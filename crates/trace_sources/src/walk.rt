@@ -1,4 +1,5 @@
 // The walk of a plan's steps: the inputs behind each buffer, and behind each slot.
+use crate::buffer_sets::SET_WORDS;
 use crate::buffer_sets::add;
 use crate::buffer_sets::give;
 use crate::buffer_sets::load;
@@ -16,7 +17,7 @@ ghost use Prim.Native.Nat.{ℕ, _<_};
 ghost use lib.Dec.{eqb};
 ghost use lib.ListN.{length};
 ghost use Rattle.sets.specs.Sets.{member};
-ghost use Rattle.plan.specs.Limits.{inputs};
+ghost use Rattle.plan.specs.Limits.{inputs, unitLimits};
 ghost use Rattle.plan.specs.Words.{decoded};
 ghost use Rattle.plan.specs.Check.{named};
 ghost use Rattle.plan.specs.Sound.{Within, IndexList, Tested};
@@ -24,11 +25,10 @@ ghost use Rattle.plan.specs.Resolved.{resolved};
 ghost use Rattle.trace.specs.Sources.{noSources, union, spread, joins, behind, slotCount};
 ghost use Rattle.trace_sources.specs.Loops.{areaWords, slotWords, sourcesOf, changed, withSlot, Fit, Spans};
 
-// Four words for each buffer.
-const AREA_WORDS: usize = Plan::MAX_BUFFERS * 4;
+// The words of the sets of all buffers, and of all slots.
+const AREA_WORDS: usize = Plan::MAX_BUFFERS * SET_WORDS;
 
-// Four words for each slot.
-pub const SLOT_WORDS: usize = Step::SLOTS as usize * 4;
+pub const SLOT_WORDS: usize = Step::SLOTS as usize * SET_WORDS;
 
 // The count of slots, where a step comes to those before it.
 fn with_slot(count: usize, step: Step) -> usize
@@ -52,9 +52,9 @@ fn behind_span(plan: Plan, indices: &[u32], area: &[u64], src: Span) -> Set
     union_of(area, plan_steps::numbers(indices, src))
 }
 
-// Patch. Requires an input and a buffer below 256, and the words of all buffers.
+// Patch. Requires an input and a buffer of a plan, and the words of all buffers.
 fn patch(area: &mut [u64], input: u32, dst: u32)
-    requires { ⌜ (input < inputs) × (dst < 256) × (length (now area) ≡ areaWords) ⌝ }
+    requires { ⌜ (input < inputs) × (dst < unitLimits .buffers) × (length (now area) ≡ areaWords) ⌝ }
     ensures { λ _. ⌜ ((b i : ℕ) → sourcesOf (now (area .exit)) b i ≡ cond (eqb b dst) (eqb i input) (sourcesOf (now (area .entry)) b i)) ⌝ }
 {
     store(area, dst, Set::empty().with(input));

@@ -12,7 +12,7 @@ use Rattle.lists.specs.Entries.{has}
 use Rattle.lists.proofs.Bools.{eqb-swap}
 use Rattle.lists.proofs.Entries.{some-none}
 use Rattle.lists.proofs.Scans.{has-listed, listed-here, listed-end}
-use Rattle.sets.specs.Sets.{member}
+use Rattle.sets.specs.Sets.{member, setSize}
 use Rattle.sets.specs.declared.Set.{Set}
 use Rattle.plan_steps.proofs.set_of.Statement.{statement}
 use Rattle.plan_steps.proofs.set_of.Tie as tie
@@ -52,7 +52,7 @@ shared-slice-read-with c = search needs
 with-requires : tie.Need-with-requires Inv-loop μ-loop
 with-requires c κs =
     let s = c .before .before .before .before .before in
-    some-none 256 (s .args .list .now) .0 (s .pre) (c .before .before .loop .i) (c .before .loop-test .taken)
+    some-none setSize (s .args .list .now) .0 (s .pre) (c .before .before .loop .i) (c .before .loop-test .taken)
 
 add-i : tie.Need-add-i Inv-loop μ-loop
 add-i c = search needs

@@ -1,4 +1,4 @@
--- `mix_buffers::sums::matrix_row` meets its contract: the invariant is that the first i pieces of 16 samples are summed. Assumes nothing.
+-- `mix_buffers::sums::matrix_row` meets its contract: the invariant is that the first i whole pieces are summed. Assumes nothing.
 use mathlib.Core.Path.{_≡_, refl, _∙_}
 use Prim.Native.Nat.{_+_, _-_, _*_, _/_, _≤_}
 use native.Mathlib.Omega.{arith}
@@ -7,13 +7,13 @@ use lib.Seq.{sets}
 use borrow.Author.Needs.{needs}
 use Rattle.node.specs.Nodes.{gainAt}
 use Rattle.mix.specs.Samples.{silence, sampled}
-use Rattle.mix.specs.Loops.{rowSample}
-use Rattle.mix.proofs.Rows.{row-start, row-piece, row-piece-of-16, row-done}
+use Rattle.mix.specs.Loops.{rowSample, wholePiece}
+use Rattle.mix.proofs.Rows.{row-start, row-piece, row-whole-piece, row-done}
 use Rattle.mix_buffers.proofs.sums.matrix_row.Statement.{statement}
 use Rattle.mix_buffers.proofs.sums.matrix_row.Tie as tie
 
 abbrev Inv-loop : tie.InvT-loop
-Inv-loop area₀ block src d cur step target left v e i₀ area i = (i ≤ e) × (length area ≡ length area₀) × (area ≡ sets area₀ (d * block) (sampled (16 * i) (λ k. rowSample block (gainAt cur step target left) v src area₀ k silence)))
+Inv-loop area₀ block src d cur step target left v e i₀ area i = (i ≤ e) × (length area ≡ length area₀) × (area ≡ sets area₀ (d * block) (sampled (wholePiece * i) (λ k. rowSample block (gainAt cur step target left) v src area₀ k silence)))
 
 abbrev μ-loop : tie.MeasureT-loop
 μ-loop area₀ block src d cur step target left v e i₀ area i = e - i
@@ -42,7 +42,7 @@ loop-again c =
     let l = c .before .before .before .before .before .loop in (
       search needs,
       c .before .before .sum-piece .kept .0 ∙ l .inv .1,
-      row-piece-of-16 (a .block) (gainAt (a .cur .now) (a .step .now) (a .target .now) (a .left)) (a .v) (a .src .now) (a .d) (a .area .now) (c .before .before .before .before .before .before .before .before .before .before .before .pre .1) (l .i) (omega arith) (l .inv .2) (c .before .before .sum-piece .ensures),
+      row-whole-piece (a .block) (gainAt (a .cur .now) (a .step .now) (a .target .now) (a .left)) (a .v) (a .src .now) (a .d) (a .area .now) (c .before .before .before .before .before .before .before .before .before .before .before .pre .1) (l .i) (omega arith) (l .inv .2) (c .before .before .sum-piece .ensures),
     )
 
 mul-r : tie.Need-mul-r Inv-loop μ-loop
@@ -54,7 +54,7 @@ same-length c = omega arith
 returns : tie.Need-returns Inv-loop μ-loop
 returns c =
     let a = c .before .before .before .before .before .before .before .before .args in
-    let l = c .before .before .loop in row-done (a .block) (gainAt (a .cur .now) (a .step .now) (a .target .now) (a .left)) (a .v) (a .src .now) (a .d) (a .area .now) (c .before .before .before .before .before .before .before .before .pre .1) (16 * l .i) (omega arith) (l .inv .2)
+    let l = c .before .before .loop in row-done (a .block) (gainAt (a .cur .now) (a .step .now) (a .target .now) (a .left)) (a .v) (a .src .now) (a .d) (a .area .now) (c .before .before .before .before .before .before .before .before .pre .1) (wholePiece * l .i) (omega arith) (l .inv .2)
 
 sub-m : tie.Need-sub-m Inv-loop μ-loop
 sub-m c = search needs
@@ -73,10 +73,10 @@ returns-2 c =
     let a = c .before .before .before .before .before .before .before .before .before .before .before .before .args in
     let l = c .before .before .before .before .before .before .loop in
     let p = c .before .before .before .before .before .before .before .before .before .before .before .before .pre .1 in
-    let n = a .block / 16 in
+    let n = a .block / wholePiece in
     let e : l .i ≡ n = omega arith in
-    row-done (a .block) (gainAt (a .cur .now) (a .step .now) (a .target .now) (a .left)) (a .v) (a .src .now) (a .d) (a .area .now) p (16 * n + (a .block - 16 * n)) (omega arith)
-    (row-piece (a .block) (gainAt (a .cur .now) (a .step .now) (a .target .now) (a .left)) (a .v) (a .src .now) (a .d) (a .area .now) p (16 * n) (a .block - 16 * n) (omega arith) (rw e at (l .inv .2)) (c .before .before .sum-piece2 .ensures))
+    row-done (a .block) (gainAt (a .cur .now) (a .step .now) (a .target .now) (a .left)) (a .v) (a .src .now) (a .d) (a .area .now) p (wholePiece * n + (a .block - wholePiece * n)) (omega arith)
+    (row-piece (a .block) (gainAt (a .cur .now) (a .step .now) (a .target .now) (a .left)) (a .v) (a .src .now) (a .d) (a .area .now) p (wholePiece * n) (a .block - wholePiece * n) (omega arith) (rw e at (l .inv .2)) (c .before .before .sum-piece2 .ensures))
 
 pub matrix-row-spec : {M : Type 1} → statement M
 matrix-row-spec =

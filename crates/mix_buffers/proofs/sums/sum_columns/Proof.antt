@@ -5,12 +5,13 @@ use native.Mathlib.Omega.{arith}
 use lib.ListN.{length}
 use borrow.Author.Needs.{needs}
 use Rattle.node.specs.Nodes.{gainAt}
+use Rattle.mix.specs.Loops.{wholePiece}
 use Rattle.mix.proofs.Rows.{Left, columns-left, column-done, columns-done}
 use Rattle.mix_buffers.proofs.sums.sum_columns.Statement.{statement}
 use Rattle.mix_buffers.proofs.sums.sum_columns.Tie as tie
 
 abbrev Inv-loop : tie.InvT-loop
-Inv-loop area t₀ block src cur step target left v j m c₀ c-end t c = (c ≤ c-end) × (length t ≡ 16) × Left block (gainAt cur step target left) v src area j m t₀ c t
+Inv-loop area t₀ block src cur step target left v j m c₀ c-end t c = (c ≤ c-end) × (length t ≡ wholePiece) × Left block (gainAt cur step target left) v src area j m t₀ c t
 
 abbrev μ-loop : tie.MeasureT-loop
 μ-loop area t₀ block src cur step target left v j m c₀ c-end t c = c-end - c

@@ -1,18 +1,19 @@
--- `mix_samples::pieces::scale_into` meets its contract: the invariant is that the first i pieces of 16 samples are done. Assumes nothing.
+-- `mix_samples::pieces::scale_into` meets its contract: the invariant is that the first i whole pieces are done. Assumes nothing.
 use mathlib.Core.Path.{_≡_, refl, _∙_}
 use Prim.Native.Nat.{_-_, _*_, _/_, _≤_}
 use native.Mathlib.Omega.{arith}
 use lib.ListN.{length}
 use lib.Seq.{sets}
 use borrow.Author.Needs.{needs}
+use Rattle.mix.specs.Loops.{wholePiece}
 use Rattle.mix.specs.Samples.{sample, sampled}
 use Rattle.mix.specs.Mix.{scaled}
-use Rattle.mix.proofs.Mixed.{pieces-start, piece-of-16, all-pieces, last-piece}
+use Rattle.mix.proofs.Mixed.{pieces-start, whole-piece, all-pieces, last-piece}
 use Rattle.mix_samples.proofs.pieces.scale_into.Statement.{statement}
 use Rattle.mix_samples.proofs.pieces.scale_into.Tie as tie
 
 abbrev Inv-loop : tie.InvT-loop
-Inv-loop area₀ block s d g from to e i₀ area i = (i ≤ e) × (length area ≡ length area₀) × (area ≡ sets area₀ to (sampled (16 * i) (λ k. scaled g k (sample block area₀ s k))))
+Inv-loop area₀ block s d g from to e i₀ area i = (i ≤ e) × (length area ≡ length area₀) × (area ≡ sets area₀ to (sampled (wholePiece * i) (λ k. scaled g k (sample block area₀ s k))))
 
 abbrev μ-loop : tie.MeasureT-loop
 μ-loop area₀ block s d g from to e i₀ area i = e - i
@@ -56,7 +57,7 @@ loop-again c =
     let l = c .before .before .before .before .before .loop in (
       search needs,
       c .before .before .scale-piece .kept .0 ∙ l .inv .1,
-      piece-of-16 (λ k x y. scaled (a .g) k x) (a .block) (a .s) (a .d) (a .area .now) (c .before .before .before .before .before .before .before .pre) (l .i) (omega arith) (l .inv .2) (c .before .before .scale-piece .ensures),
+      whole-piece (λ k x y. scaled (a .g) k x) (a .block) (a .s) (a .d) (a .area .now) (c .before .before .before .before .before .before .before .pre) (l .i) (omega arith) (l .inv .2) (c .before .before .scale-piece .ensures),
     )
 
 mul-r : tie.Need-mul-r Inv-loop μ-loop
@@ -90,8 +91,8 @@ returns-2 : tie.Need-returns-2 Inv-loop μ-loop
 returns-2 c =
     let a = c .before .before .before .before .before .before .before .before .args in
     let l = c .before .before .before .before .before .before .loop in
-    let e : l .i ≡ a .block / 16 = omega arith in
-    last-piece (λ k x y. scaled (a .g) k x) (a .block) (a .s) (a .d) (a .area .now) (c .before .before .before .before .before .before .before .before .pre) (a .block / 16) (omega arith) (rw e at (l .inv .2)) (c .before .before .scale-piece2 .ensures)
+    let e : l .i ≡ a .block / wholePiece = omega arith in
+    last-piece (λ k x y. scaled (a .g) k x) (a .block) (a .s) (a .d) (a .area .now) (c .before .before .before .before .before .before .before .before .pre) (a .block / wholePiece) (omega arith) (rw e at (l .inv .2)) (c .before .before .scale-piece2 .ensures)
 
 pub scale-into-spec : {M : Type 1} → statement M
 scale-into-spec =

@@ -12,7 +12,7 @@ use Rattle.sets.proofs.Set.count.Tie as tie
 fits : (c : tie.Start) → Fits (c .args .self)
 fits c = record { fits0 = search needs; fits1 = search needs; fits2 = search needs; fits3 = search needs }
 
-few : (c : tie.Start) → ones (c .args .self .w0) + ones (c .args .self .w1) + ones (c .args .self .w2) + ones (c .args .self .w3) ≤ 256
+few : (c : tie.Start) → ones (c .args .self .w0) + ones (c .args .self .w1) + ones (c .args .self .w2) + ones (c .args .self .w3) ≤ setSize
 few c = omega (arith, length-members (c .args .self) (fits c), length-members-le (c .args .self))
 
 add-result : tie.Need-add-result
