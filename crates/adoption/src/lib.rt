@@ -37,7 +37,7 @@ fn adoption_answer(
     if pairs.len() % 2 != 0 {
         return Answer::refused(Refusal::ODD_LIST);
     }
-    if node::any_bad(node_words, nodes) | node::any_bad(old_words, old_nodes) {
+    if node_areas::any_bad(node_words, nodes) | node_areas::any_bad(old_words, old_nodes) {
         return Answer::refused(Refusal::BAD_NODE);
     }
     if ramp > Node::MAX_RAMP {
@@ -68,15 +68,15 @@ fn adopt_pair(
     if o >= old_nodes {
         return;
     }
-    if node_words[n * Node::WORDS + 1] != old_words[o * Node::WORDS + 1] {
+    if node_areas::len_of(&node_words[..], n) != node_areas::len_of(old_words, o) {
         return;
     }
-    let old = node::load(old_floats, old_words, o);
+    let old = node_areas::load(old_floats, old_words, o);
     let cur = old.cur;
-    let mut node = node::load(&node_floats[..], &node_words[..], n);
+    let mut node = node_areas::load(&node_floats[..], &node_words[..], n);
     node.cur = cur;
     let target = node.target;
-    node::store(node.set(&target[..], ramp), node_floats, node_words, n);
+    node_areas::store(node.set(&target[..], ramp), node_floats, node_words, n);
 }
 
 // The pairs, in order. Requires what the tests leave.

@@ -164,7 +164,7 @@ impl PlanBuilder {
             },
             Answer::Accepted => {
                 let n = plan.nodes;
-                node::store(Node::new(id, values, ramp), floats, words, n);
+                node_areas::store(Node::new(id, values, ramp), floats, words, n);
                 let mut grown = plan;
                 grown.nodes = n + 1;
                 Numbered {

@@ -12,7 +12,7 @@ use lib.Ieee.{Float, nan}
 use Rattle.node.specs.declared.Gain.{Gain}
 use Rattle.mix.specs.Samples.{silence, sample, sampled, put}
 use Rattle.mix.specs.Mix.{silent, added, mixIn, clearBuffer, columns, Inside, NotIn, Row}
-use Rattle.mix.specs.Loops.{plusScaled, rowSample}
+use Rattle.mix.specs.Loops.{wholePiece, plusScaled, rowSample}
 use Rattle.mix.proofs.Stored.{run-more, none-stored}
 use Rattle.mix.proofs.Put.{begun-other, put-sample, put-other, put-same, put-put}
 

@@ -1,1 +1,2 @@
-// What Gain, Matrix, Send, Clear and Output write, sample by sample: definitions and their laws, and no code.
+// What Patch, Gain, Matrix, Send, Clear and Output write, sample by sample: definitions and their laws. There is no code here: crates `mix_samples` and
+// `mix_buffers` have it.

@@ -10,10 +10,10 @@ use lib.ListN.{length, getD, set, length-set, length-append, List·getD-append}
 use lib.Seq.{sets, length-sets, getD-set-same, getD-set-other, getD-at, ext-getD}
 use lib.Ieee.{Float}
 use Rattle.lists.specs.Parts.{part}
-use Rattle.lists.proofs.Stores.{sets-append, getD-sets, getD-sets-at, part-sets-before, part-sets-after, part-sets-same}
+use Rattle.lists.proofs.Stores.{length-part, sets-append, getD-sets, getD-sets-at, part-sets-before, part-sets-after, part-sets-same}
 use Rattle.node.specs.Sizes.{maxValues, nodeFloats, nodeWords}
-use Rattle.node.specs.Nodes.{Full}
-use Rattle.node.specs.Areas.{Room, idAt, lenAt, leftAt, nodeAt, nodes, floatsOf, wordsOf, storedFloats, storedWords}
+use Rattle.node.specs.Nodes.{Full, gainAt, gainOf}
+use Rattle.node.specs.Areas.{Room, idAt, lenAt, leftAt, curAt, targetAt, stepAt, nodeAt, nodes, floatsOf, wordsOf, storedFloats, storedWords}
 use Rattle.node.specs.declared.Node.{Node}
 
 -- ---- lengths
@@ -183,3 +183,18 @@ nodes-stored count floats words n node full h room =
         go (no e) =
             getD-nodes count fs ws i node k ∙ stored-other floats words n node full i e
             ∙ sym (getD-set-other before n i node node e ∙ getD-nodes count floats words i node k)
+
+-- ---- the rows of a node where they lie
+
+pub length-rows : (floats : List Float) (n : ℕ) → (n + 1) * nodeFloats ≤ length floats
+    → (length (curAt floats n) ≡ maxValues) × (length (targetAt floats n) ≡ maxValues) × (length (stepAt floats n) ≡ maxValues)
+length-rows floats n r = (
+  length-part (n * nodeFloats) maxValues floats (omega arith),
+  length-part (n * nodeFloats + maxValues) maxValues floats (omega arith),
+  length-part (n * nodeFloats + 2 * maxValues) maxValues floats (omega arith),
+)
+
+pub rows-gains : (floats : List Float) (words : List ℕ) (n : ℕ) {cur step target : List Float} {left : ℕ} → cur ≡ curAt floats n
+    → target ≡ targetAt floats n → step ≡ stepAt floats n → left ≡ leftAt words n → gainAt cur step target left ≡ gainOf (nodeAt floats words n)
+unfolding nodeAt gainOf
+rows-gains floats words n c t s l = rw (c, t, s, l)

@@ -9,6 +9,7 @@ use lib.Ieee.{Float}
 use Rattle.lists.specs.Parts.{part}
 use Rattle.node.specs.Sizes.{maxValues, nodeFloats, nodeWords, maxRamp}
 use Rattle.node.specs.declared.Node.{Node}
+use Rattle.node.specs.Nodes.{finishBlock}
 
 -- the areas have the floats and the words of the first count nodes
 abbrev pub Room : ℕ → List Float → List ℕ → Type 0
@@ -25,15 +26,24 @@ lenAt words n = getD words (n * nodeWords + 1) 0
 abbrev pub leftAt : List ℕ → ℕ → ℕ
 leftAt words n = getD words (n * nodeWords + 2) 0
 
+abbrev pub curAt : List Float → ℕ → List Float
+curAt floats n = part (n * nodeFloats) maxValues floats
+
+abbrev pub targetAt : List Float → ℕ → List Float
+targetAt floats n = part (n * nodeFloats + maxValues) maxValues floats
+
+abbrev pub stepAt : List Float → ℕ → List Float
+stepAt floats n = part (n * nodeFloats + 2 * maxValues) maxValues floats
+
 -- node n, from 0
 unfoldable pub nodeAt : List Float → List ℕ → ℕ → Node
 nodeAt floats words n =
     record {
       id = idAt words n;
       len = lenAt words n;
-      cur = part (n * nodeFloats) maxValues floats;
-      target = part (n * nodeFloats + maxValues) maxValues floats;
-      step = part (n * nodeFloats + 2 * maxValues) maxValues floats;
+      cur = curAt floats n;
+      target = targetAt floats n;
+      step = stepAt floats n;
       left = leftAt words n;
     }
 
@@ -56,6 +66,10 @@ storedFloats floats n node = sets floats (n * nodeFloats) (floatsOf node)
 
 abbrev pub storedWords : List ℕ → ℕ → Node → List ℕ
 storedWords words n node = sets words (n * nodeWords) (wordsOf node)
+
+-- node n at the end of a step's block
+abbrev pub ended : ℕ → List Float → List ℕ → ℕ → Node
+ended block floats words n = finishBlock (nodeAt floats words n) block
 
 -- ---- number 14: "any lent node, used or not, new or old, with len above 24 or left above 16,777,216"
 

@@ -1,14 +1,10 @@
-// The smoothed values of one node of a mix plan, one gain of it, and a node in its lent areas.
+// The smoothed values of one node of a mix plan, and one gain of it. A node in its lent areas is defined here too; crate `node_areas` has the code.
 // All of it is for the crates above and not the interface: a function that has a `requires` says in its comment what it takes.
 use lists::smaller;
 ghost use mathlib.Core.Path.{_≡_};
 ghost use Prim.Native.Nat.{_+_, _*_, _<_, _≤_};
-ghost use lib.ListN.{length};
-ghost use lib.Seq.{sets};
-ghost use Rattle.lists.specs.Parts.{part};
-ghost use Rattle.node.specs.Sizes.{maxValues, nodeWords, maxRamp};
+ghost use Rattle.node.specs.Sizes.{maxValues, maxRamp};
 ghost use Rattle.node.specs.Nodes.{withTarget, atTarget, startRamp, newNode, setNode, finishBlock, gainFrom, gainOf, factor};
-ghost use Rattle.node.specs.Areas.{Room, nodeAt, storedFloats, storedWords, someBad};
 
 pub struct Node {
     pub id: u32,
@@ -158,79 +154,4 @@ impl Gain {
             }
         }
     }
-}
-
-// Requires floats that reach past the row.
-fn load_row(floats: &[f32], at: usize) -> [f32; Node::MAX]
-    requires { ⌜ at + maxValues ≤ length (now floats) ⌝ }
-    ensures { λ r. ⌜ r ≡ part at maxValues (now (floats .entry)) ⌝ }
-{
-    let mut row = [0.0f32; Node::MAX];
-    for i in 0..Node::MAX {
-        row[i] = floats[at + i];
-    }
-    row
-}
-
-// Requires floats that reach past the row.
-fn store_row(row: [f32; Node::MAX], floats: &mut [f32], at: usize)
-    requires { ⌜ at + maxValues ≤ length (now floats) ⌝ }
-    ensures { λ _. ⌜ now (floats .exit) ≡ sets (now (floats .entry)) at row ⌝ }
-{
-    for i in 0..Node::MAX {
-        floats[at + i] = row[i];
-    }
-}
-
-// Node n of the lent areas, whatever they hold. Requires areas that reach past it.
-pub fn load(floats: &[f32], words: &[u32], n: usize) -> Node
-    requires { ⌜ Room (n + 1) (now floats) (now words) ⌝ }
-    ensures { λ r. ⌜ r ≡ nodeAt (now (floats .entry)) (now (words .entry)) n ⌝ }
-{
-    let at = n * Node::FLOATS;
-    let cur = load_row(floats, at);
-    let target = load_row(floats, at + Node::MAX);
-    let step = load_row(floats, at + 2 * Node::MAX);
-    let w = n * Node::WORDS;
-    Node {
-        id: words[w],
-        len: words[w + 1],
-        cur,
-        target,
-        step,
-        left: words[w + 2],
-    }
-}
-
-// Makes `node` the node n of the lent areas. Requires areas that reach past it.
-pub fn store(node: Node, floats: &mut [f32], words: &mut [u32], n: usize)
-    requires { ⌜ Room (n + 1) (now floats) (now words) ⌝ }
-    ensures floats { λ _. ⌜ now (floats .exit) ≡ storedFloats (now (floats .entry)) n node ⌝ }
-    ensures words { λ _. ⌜ now (words .exit) ≡ storedWords (now (words .entry)) n node ⌝ }
-{
-    let at = n * Node::FLOATS;
-    let cur = node.cur;
-    let target = node.target;
-    let step = node.step;
-    store_row(cur, floats, at);
-    store_row(target, floats, at + Node::MAX);
-    store_row(step, floats, at + 2 * Node::MAX);
-    let w = n * Node::WORDS;
-    words[w] = node.id;
-    words[w + 1] = node.len;
-    words[w + 2] = node.left;
-}
-
-// The test of number 14 over the first `count` lent nodes, and its only place. Requires that `words` has all of theirs.
-pub fn any_bad(words: &[u32], count: usize) -> bool
-    requires { ⌜ count * nodeWords ≤ length (now words) ⌝ }
-    ensures { λ r. ⌜ r ≡ someBad (now (words .entry)) count ⌝ }
-{
-    for i in 0..count {
-        let w = i * Node::WORDS;
-        if (words[w + 1] > Node::MAX as u32) | (words[w + 2] > Node::MAX_RAMP) {
-            return true;
-        }
-    }
-    false
 }

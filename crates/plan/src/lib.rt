@@ -1,5 +1,5 @@
 // The plan record, its steps, and the limits. Ports `Span` and `Step` of src/engine/plan.rs. What the step words say and what the plan check accepts
-// are defined here; the crates above have the code.
+// are defined here, with the laws of both. There is no code here: crates `plan_reader`, `plan_steps`, `plan_areas` and `plan_check` have it.
 use refusal::Refusal;
 
 // A plan's block and counts, which go with its lent areas. `words` counts the step words.

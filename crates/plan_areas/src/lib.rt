@@ -1,4 +1,4 @@
-// The tests of a plan as a whole.
+// The tests of a plan as a whole: its block (number 1), its counts (5), its areas (2), its index entries (4) and the ids of its nodes (8).
 use node::Node;
 use plan::Plan;
 ghost use mathlib.Core.Path.{_≡_};
@@ -91,7 +91,7 @@ pub fn id_among(words: &[u32], n: usize, id: u32) -> bool
     let mut i = n;
     while i > 0 {
         i -= 1;
-        if words[i * Node::WORDS] == id {
+        if node_areas::id_of(words, i) == id {
             return true;
         }
     }
@@ -125,7 +125,7 @@ pub fn id_twice(words: &[u32], n: usize) -> bool
     let mut later = n;
     while later > 0 {
         later -= 1;
-        if id_among(words, later, words[later * Node::WORDS]) {
+        if id_among(words, later, node_areas::id_of(words, later)) {
             return true;
         }
     }

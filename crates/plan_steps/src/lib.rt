@@ -1,4 +1,4 @@
-// The tests of a step that was read, and what of a step the crates above go by.
+// The tests of a step that was read (numbers 4, 7 and 6), the buffers that its spans name, and the channels that it appends to the output.
 use node::Node;
 use plan::Plan;
 use plan::Span;
@@ -144,7 +144,7 @@ pub fn numbers(indices: &[u32], span: Span) -> &[u32]
     &indices[start..end]
 }
 
-// The entries of a list. Requires entries below 256.
+// The entries of a list. Requires entries that a set can have.
 pub fn set_of(list: &[u32]) -> Set
     requires { ⌜ someFrom setSize (now list) ≡ false ⌝ }
     ensures { λ r. ⌜ ((j : ℕ) → member r j ≡ has (now (list .entry)) j) ⌝ }
@@ -158,7 +158,7 @@ pub fn set_of(list: &[u32]) -> Set
     set
 }
 
-// An entry of one list is in the other. Requires entries of the second below 256.
+// An entry of one list is in the other. Requires entries of the second that a set can have.
 fn lists_meet(xs: &[u32], ys: &[u32]) -> bool
     requires { ⌜ someFrom setSize (now ys) ≡ false ⌝ }
     ensures { λ r. ⌜ r ≡ meet (now (xs .entry)) (now (ys .entry)) ⌝ }

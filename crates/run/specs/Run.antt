@@ -9,8 +9,8 @@ use Rattle.refusal.specs.Tests.{Test, test, first, outcome}
 use Rattle.refusal.specs.declared.Answer.{Answer}
 use Rattle.refusal.specs.declared.Answer.the-variants.{Accepted}
 use Rattle.node.specs.declared.Gain.{Gain}
-use Rattle.node.specs.Nodes.{gainOf, finishBlock}
-use Rattle.node.specs.Areas.{nodeAt, storedFloats, storedWords, someBad}
+use Rattle.node.specs.Nodes.{gainOf}
+use Rattle.node.specs.Areas.{nodeAt, storedFloats, storedWords, ended, someBad}
 use Rattle.mix.specs.Samples.{put}
 use Rattle.mix.specs.Mix.{gained, rows, sends, cleared, appended, patched}
 use Rattle.plan.specs.declared.Plan.{Plan}
@@ -57,7 +57,7 @@ withBuffers s buffers = state (s .floats) (s .words) buffers (s .output) (s .wro
 -- "End of a step's block" of node n
 abbrev pub finished : ℕ → ℕ → State → State
 finished block n s =
-    let node = finishBlock (nodeAt (s .floats) (s .words) n) block in
+    let node = ended block (s .floats) (s .words) n in
     state (storedFloats (s .floats) n node) (storedWords (s .words) n node) (s .buffers) (s .output) (s .wrote)
 
 -- the lines of document 01's section "Run"

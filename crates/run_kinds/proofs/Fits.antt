@@ -11,13 +11,11 @@ use lib.ListN.{length, getD, take, drop, length-take}
 use lib.Seq.{take-take, take-all}
 use lib.Ieee.{Float, nan}
 use borrow.Author.Tests.{le-leb, lt-leb}
-use Rattle.lists.specs.Parts.{part}
-use Rattle.lists.proofs.Stores.{length-part}
 use Rattle.lists.specs.Entries.{someFrom, Disjoint}
 use Rattle.lists.proofs.Entries.{some-none}
 use Rattle.node.specs.Sizes.{maxValues, nodeFloats}
-use Rattle.node.specs.Nodes.{gainAt, gainOf}
-use Rattle.node.specs.Areas.{Room, lenAt, leftAt, nodeAt}
+use Rattle.node.specs.Areas.{Room, lenAt, curAt, targetAt, stepAt, nodeAt}
+use Rattle.node.proofs.Areas.{length-rows}
 use Rattle.node.proofs.Bad.{none-bad-at}
 use Rattle.mix.specs.Samples.{silence, put}
 use Rattle.mix.specs.Mix.{AllInside, Buffers, Values, patched}
@@ -69,23 +67,12 @@ used-named indices s d h {xs} {ys} es ed =
     let n : length ys ≡ d .len = ap length ed ∙ length-named indices d h in
     rw (n, es) (take-both (d .len) (s .len) (drop (s .start) indices))
 
--- ---- rows and gains of a node
-module _ (floats : List Float) (words : List ℕ) (n : ℕ) where
-  pub rows-gains : {cur step target : List Float} {left : ℕ} → cur ≡ part (n * nodeFloats) maxValues floats
-      → target ≡ part (n * nodeFloats + maxValues) maxValues floats → step ≡ part (n * nodeFloats + 2 * maxValues) maxValues floats
-      → left ≡ leftAt words n → gainAt cur step target left ≡ gainOf (nodeAt floats words n)
-  unfolding nodeAt gainOf
-  rows-gains c t s l = rw (c, t, s, l)
-
-  pub rows-values : {cur step target : List Float} (m : ℕ) → (n + 1) * nodeFloats ≤ length floats → m ≤ maxValues
-      → cur ≡ part (n * nodeFloats) maxValues floats → target ≡ part (n * nodeFloats + maxValues) maxValues floats
-      → step ≡ part (n * nodeFloats + 2 * maxValues) maxValues floats → Values m cur step target
-  rows-values m r h c t s =
-      record {
-        curs = rw (c, length-part (n * nodeFloats) maxValues floats (omega arith)) h;
-        steps = rw (s, length-part (n * nodeFloats + 2 * maxValues) maxValues floats (omega arith)) h;
-        targets = rw (t, length-part (n * nodeFloats + maxValues) maxValues floats (omega arith)) h;
-      }
+-- ---- the rows of a node, as the sample loops take them
+pub rows-values : (floats : List Float) (n m : ℕ) → (n + 1) * nodeFloats ≤ length floats → m ≤ maxValues → {cur step target : List Float}
+    → cur ≡ curAt floats n → target ≡ targetAt floats n → step ≡ stepAt floats n → Values m cur step target
+rows-values floats n m r h c t s =
+    let l = length-rows floats n r in
+    record { curs = rw (c, l .0) h; steps = rw (s, l .2) h; targets = rw (t, l .1) h }
 
 -- a step's call, from what its parts were worked out as
 pub same-call : {A : Type 0} {G : Type 0} (f : G → List ℕ → List ℕ → A) {x y : G} {s d src dst : List ℕ} → x ≡ y → s ≡ src → d ≡ dst → f x s d ≡ f y src dst

@@ -37,7 +37,7 @@ pub fn admission(
         }
         Counted::Channels(n) => n,
     };
-    if node::any_bad(words, plan.nodes) {
+    if node_areas::any_bad(words, plan.nodes) {
         return Answer::refused(Refusal::BAD_NODE);
     }
     if input::directory_bad(directory, samples.len()) {

@@ -21,7 +21,7 @@ fn setting_answer(count: usize, id: u32, ramp: u32, floats: usize, words: &[u32]
     {
         return Answer::refused(Refusal::SHORT_AREA);
     }
-    if node::any_bad(words, count) {
+    if node_areas::any_bad(words, count) {
         return Answer::refused(Refusal::BAD_NODE);
     }
     if plan_areas::id_twice(words, count) {
@@ -44,7 +44,7 @@ fn node_of(words: &[u32], n: usize, id: u32) -> usize
     let mut i = n;
     while i > 0 {
         i -= 1;
-        if words[i * Node::WORDS] == id {
+        if node_areas::id_of(words, i) == id {
             return i;
         }
     }
@@ -68,8 +68,8 @@ pub fn set_param(
         Answer::Refused(r) => Answer::Refused(r),
         Answer::Accepted => {
             let n = node_of(&node_words[..], nodes, id);
-            let node = node::load(&node_floats[..], &node_words[..], n);
-            node::store(node.set(values, ramp), node_floats, node_words, n);
+            let node = node_areas::load(&node_floats[..], &node_words[..], n);
+            node_areas::store(node.set(values, ramp), node_floats, node_words, n);
             Answer::Accepted
         }
     }

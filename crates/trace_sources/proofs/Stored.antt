@@ -19,50 +19,50 @@ use Rattle.sets.specs.declared.Set.{Set}
 use Rattle.sets.specs.Sets.{member, words}
 use Rattle.sets.proofs.Laws.{member-empty}
 use Rattle.trace.specs.Sources.{noSources, union}
-use Rattle.trace_sources.specs.Loops.{setAt, sourcesOf, changed, other, joined}
+use Rattle.trace_sources.specs.Loops.{setWords, setAt, sourcesOf, changed, other, joined}
 
 -- ---- the store of one set
 module _ (area : List ℕ) (b : ℕ) (s : Set) where
   -- as the code stores its words
   abbrev pub stored : List ℕ
-  stored = set (set (set (set area (b * 4) (s .w0)) (b * 4 + 1) (s .w1)) (b * 4 + 2) (s .w2)) (b * 4 + 3) (s .w3)
+  stored = set (set (set (set area (b * setWords) (s .w0)) (b * setWords + 1) (s .w1)) (b * setWords + 2) (s .w2)) (b * setWords + 3) (s .w3)
 
-  stored-sets : stored ≡ sets area (b * 4) (words s)
+  stored-sets : stored ≡ sets area (b * setWords) (words s)
   stored-sets = simp unary-clauses
 
-  pub stored-sources : b * 4 + 4 ≤ length area → (c i : ℕ) → sourcesOf stored c i ≡ cond (eqb c b) (member s i) (sourcesOf area c i)
+  pub stored-sources : b * setWords + setWords ≤ length area → (c i : ℕ) → sourcesOf stored c i ≡ cond (eqb c b) (member s i) (sourcesOf area c i)
   stored-sources h c i = go (eqb c b) refl
     where
       -- word k of the set that was stored, and of another
-      here : (k j : ℕ) → k < 4 → j ≡ b * 4 + k → getD stored j 0 ≡ getD (words s) k 0
+      here : (k j : ℕ) → k < setWords → j ≡ b * setWords + k → getD stored j 0 ≡ getD (words s) k 0
       here k j q e =
           ap (λ (m : List ℕ). getD m j 0) stored-sets
-          ∙ ap (λ (n : ℕ). getD (sets area (b * 4) (words s)) n 0) e
-          ∙ getD-sets-at area (b * 4) k (words s) 0 q (omega arith)
+          ∙ ap (λ (n : ℕ). getD (sets area (b * setWords) (words s)) n 0) e
+          ∙ getD-sets-at area (b * setWords) k (words s) 0 q (omega arith)
 
-      apart : (k j : ℕ) → k < 4 → j ≡ c * 4 + k → (c ≡ b → ⊥) → (j < b * 4) ⊎ (b * 4 + 4 ≤ j)
-      apart k j q e n = elim (decLt c b) as (λ _. (j < b * 4) ⊎ (b * 4 + 4 ≤ j)) [
+      apart : (k j : ℕ) → k < setWords → j ≡ c * setWords + k → (c ≡ b → ⊥) → (j < b * setWords) ⊎ (b * setWords + setWords ≤ j)
+      apart k j q e n = elim (decLt c b) as (λ _. (j < b * setWords) ⊎ (b * setWords + setWords ≤ j)) [
         | yes m ↦ inl (omega arith)
         | no m ↦ inr (omega (arith, n))
       ]
 
-      there : (k j : ℕ) → k < 4 → j ≡ c * 4 + k → (c ≡ b → ⊥) → getD stored j 0 ≡ getD area j 0
-      there k j q e n = ap (λ (m : List ℕ). getD m j 0) stored-sets ∙ getD-sets j area (b * 4) (words s) 0 (apart k j q e n)
+      there : (k j : ℕ) → k < setWords → j ≡ c * setWords + k → (c ≡ b → ⊥) → getD stored j 0 ≡ getD area j 0
+      there k j q e n = ap (λ (m : List ℕ). getD m j 0) stored-sets ∙ getD-sets j area (b * setWords) (words s) 0 (apart k j q e n)
 
       same : c ≡ b → setAt stored c ≡ s
       same e = λ t. record {
-        w0 = here 0 (c * 4) (omega arith) (omega arith) t;
-        w1 = here 1 (c * 4 + 1) (omega arith) (omega arith) t;
-        w2 = here 2 (c * 4 + 2) (omega arith) (omega arith) t;
-        w3 = here 3 (c * 4 + 3) (omega arith) (omega arith) t;
+        w0 = here 0 (c * setWords) (omega arith) (omega arith) t;
+        w1 = here 1 (c * setWords + 1) (omega arith) (omega arith) t;
+        w2 = here 2 (c * setWords + 2) (omega arith) (omega arith) t;
+        w3 = here 3 (c * setWords + 3) (omega arith) (omega arith) t;
       }
 
       other : (c ≡ b → ⊥) → setAt stored c ≡ setAt area c
       other n = λ t. record {
-        w0 = there 0 (c * 4) (omega arith) (omega arith) n t;
-        w1 = there 1 (c * 4 + 1) (omega arith) refl n t;
-        w2 = there 2 (c * 4 + 2) (omega arith) refl n t;
-        w3 = there 3 (c * 4 + 3) (omega arith) refl n t;
+        w0 = there 0 (c * setWords) (omega arith) (omega arith) n t;
+        w1 = there 1 (c * setWords + 1) (omega arith) refl n t;
+        w2 = there 2 (c * setWords + 2) (omega arith) refl n t;
+        w3 = there 3 (c * setWords + 3) (omega arith) refl n t;
       }
 
       go : (t : Bool) → eqb c b ≡ t → sourcesOf stored c i ≡ cond t (member s i) (sourcesOf area c i)
@@ -82,7 +82,7 @@ zeros n = λ t b i. at b i t
     at : (b i : ℕ) → sourcesOf (replicate n 0) b i ≡ false
     at b i =
         ap (λ (x : Set). member x i)
-        (λ t. record { w0 = zero-at (b * 4) t; w1 = zero-at (b * 4 + 1) t; w2 = zero-at (b * 4 + 2) t; w3 = zero-at (b * 4 + 3) t })
+        (λ t. record { w0 = zero-at (b * setWords) t; w1 = zero-at (b * setWords + 1) t; w2 = zero-at (b * setWords + 2) t; w3 = zero-at (b * setWords + 3) t })
         ∙ member-empty i
 
 -- sets that are added to it

@@ -1,5 +1,5 @@
 -- `adoption::adopt_pair` meets its contract. Assumes nothing.
-use mathlib.Core.Path.{_∙_}
+use mathlib.Core.Path.{sym, _∙_}
 use Rattle.adoption.specs.Adoption.{Lent, lent}
 use Rattle.adoption.proofs.Pairs.{Taken, skip-new, skip-old, skip-len, new-room, new-good, areas-skipped, areas-taken}
 use borrow.Author.Needs.{needs}
@@ -15,10 +15,10 @@ old s = lent (s .args .old-nodes) (s .args .old-floats .now) (s .args .old-words
 
 -- the pair is not skipped
 abbrev start : tie.Else3 → tie.Start
-start c = c .before .before .before .before .before .before .before .before .before
+start c = c .before .before .before .before .before .before .before .before .before .before
 
 taken : (c : tie.Else3) → (let s = start c in Taken (new s) (old s) (s .args .n) (s .args .o))
-taken c = record { here = c .before .before .before .before .if1 .left; there = c .before .before .before .if2 .left; lens = c .if3 .left }
+taken c = record { here = c .before .before .before .before .before .if1 .left; there = c .before .before .before .before .if2 .left; lens = sym (c .before .before .len-of .ensures) ∙ c .if3 .left ∙ c .before .len-of2 .ensures }
 
 returns : tie.Need-returns
 returns c =
@@ -30,34 +30,21 @@ returns-2 c =
     let s = c .before .before .before .before .before .before in
     areas-skipped (new s) (old s) (s .args .n) (s .args .o) (s .args .ramp) (skip-old (new s) (old s) _ _ (c .before .if1 .left) (c .if2 .taken))
 
-mul-if3 : tie.Need-mul-if3
-mul-if3 c = search needs
+len-of-requires : tie.Need-len-of-requires
+len-of-requires c κs = search needs
 
-add-if3 : tie.Need-add-if3
-add-if3 c = search needs
+len-of-requires-2 : tie.Need-len-of-requires-2
+len-of-requires-2 c κs = search needs
 
-mul-if3-2 : tie.Need-mul-if3-2
-mul-if3-2 c = search needs
-
-slice-read-if3 : tie.Need-slice-read-if3
-slice-read-if3 c = search needs
-
-mul-if3-3 : tie.Need-mul-if3-3
-mul-if3-3 c = search needs
-
-add-if3-2 : tie.Need-add-if3-2
-add-if3-2 c = search needs
-
-mul-if3-4 : tie.Need-mul-if3-4
-mul-if3-4 c = search needs
-
-shared-slice-read-if3 : tie.Need-shared-slice-read-if3
-shared-slice-read-if3 c = search needs
+same-length : tie.Need-same-length
+same-length c = search needs
 
 returns-3 : tie.Need-returns-3
 returns-3 c =
-    let s = c .before .before .before .before .before .before .before .before .before in
-    areas-skipped (new s) (old s) (s .args .n) (s .args .o) (s .args .ramp) (skip-len (new s) (old s) _ _ (c .before .before .before .before .if1 .left) (c .before .before .before .if2 .left) (c .if3 .taken))
+    let s = c .before .before .before .before .before .before .before .before .before .before in
+    areas-skipped (new s) (old s) (s .args .n) (s .args .o) (s .args .ramp)
+    (skip-len (new s) (old s) _ _ (c .before .before .before .before .before .if1 .left) (c .before .before .before .before .if2 .left)
+    (λ e. c .if3 .taken (c .before .before .len-of .ensures ∙ e ∙ sym (c .before .len-of2 .ensures))))
 
 load-requires : tie.Need-load-requires
 load-requires c κs = search needs
@@ -77,11 +64,11 @@ set-requires c κs =
 store-requires : tie.Need-store-requires
 store-requires c κs = let e = c .before .before .before .before .before .before .before .before .before .before in new-room (start e .pre) (taken e)
 
-same-length : tie.Need-same-length
-same-length c = search needs
-
 same-length-2 : tie.Need-same-length-2
 same-length-2 c = search needs
+
+same-length-3 : tie.Need-same-length-3
+same-length-3 c = search needs
 
 returns-4 : tie.Need-returns-4
 returns-4 c =
@@ -97,20 +84,15 @@ adopt-pair-spec =
     (tie.spec
     returns
     returns-2
-    mul-if3
-    add-if3
-    mul-if3-2
-    slice-read-if3
-    mul-if3-3
-    add-if3-2
-    mul-if3-4
-    shared-slice-read-if3
+    len-of-requires
+    len-of-requires-2
+    same-length
     returns-3
     load-requires
     load-requires-2
     slice-aggregate-set
     set-requires
     store-requires
-    same-length
     same-length-2
+    same-length-3
     returns-4)

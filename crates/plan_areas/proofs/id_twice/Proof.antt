@@ -1,11 +1,11 @@
 -- `plan_areas::id_twice` meets its contract. No node from `later` on has the id of one before it. Assumes nothing.
-use mathlib.Core.Path.{_≡_, refl, sym, _∙_}
+use mathlib.Core.Path.{_≡_, refl, sym, ap, _∙_}
 use Prim.Native.Nat.{_≤_}
 use native.Mathlib.Nat.{ne-of-lt}
 use native.Mathlib.Omega.{arith}
 use borrow.Author.Needs.{needs}
 use Rattle.lists.proofs.Scans.{above, counted-yes, counted-no, counted-end}
-use Rattle.plan.specs.Check.{idTwice}
+use Rattle.plan.specs.Check.{idAmong, idTwice}
 use Rattle.plan.proofs.Plans.{ids-none, twice-counted}
 use Rattle.plan_areas.proofs.id_twice.Statement.{statement}
 use Rattle.plan_areas.proofs.id_twice.Tie as tie
@@ -30,14 +30,8 @@ loop-holds c = (omega arith, refl)
 sub-later : tie.Need-sub-later Inv-loop μ-loop
 sub-later c = search needs
 
-mul-id-among : tie.Need-mul-id-among Inv-loop μ-loop
-mul-id-among c = search needs
-
-mul-id-among-2 : tie.Need-mul-id-among-2 Inv-loop μ-loop
-mul-id-among-2 c = search needs
-
-shared-slice-read-id-among : tie.Need-shared-slice-read-id-among Inv-loop μ-loop
-shared-slice-read-id-among c = search needs
+id-of-requires : tie.Need-id-of-requires Inv-loop μ-loop
+id-of-requires c κs = search needs
 
 id-among-requires : tie.Need-id-among-requires Inv-loop μ-loop
 id-among-requires c κs = search needs
@@ -45,7 +39,7 @@ id-among-requires c κs = search needs
 returns-2 : tie.Need-returns-2 Inv-loop μ-loop
 returns-2 c =
     let l = c .before .before .before .before .loop in
-    sym (l .inv .1 ∙ counted-yes (twice-counted _) (above (l .later) (omega arith)) (sym (c .before .id-among .ensures) ∙ c .if2 .taken))
+    sym (l .inv .1 ∙ counted-yes (twice-counted _) (above (l .later) (omega arith)) (sym (ap (idAmong _ _) (c .before .before .id-of .ensures)) ∙ sym (c .before .id-among .ensures) ∙ c .if2 .taken))
 
 loop-less : tie.Need-loop-less Inv-loop μ-loop
 loop-less c = search needs
@@ -53,7 +47,7 @@ loop-less c = search needs
 loop-again : tie.Need-loop-again Inv-loop μ-loop
 loop-again c =
     let l = c .before .before .before .before .loop in
-    (omega arith, l .inv .1 ∙ counted-no (twice-counted _) (above (l .later) (omega arith)) (sym (c .before .id-among .ensures) ∙ c .if2 .left))
+    (omega arith, l .inv .1 ∙ counted-no (twice-counted _) (above (l .later) (omega arith)) (sym (ap (idAmong _ _) (c .before .before .id-of .ensures)) ∙ sym (c .before .id-among .ensures) ∙ c .if2 .left))
 
 returns-3 : tie.Need-returns-3 Inv-loop μ-loop
 returns-3 c = sym (c .before .loop .inv .1 ∙ counted-end (twice-counted _) (omega arith))
@@ -68,9 +62,7 @@ id-twice-spec =
     returns
     loop-holds
     sub-later
-    mul-id-among
-    mul-id-among-2
-    shared-slice-read-id-among
+    id-of-requires
     id-among-requires
     returns-2
     loop-less

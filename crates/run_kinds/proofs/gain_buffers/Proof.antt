@@ -1,46 +1,26 @@
 -- `run_kinds::gain_buffers` meets its contract. Assumes nothing.
-use mathlib.Core.Path.{refl, _∙_}
+use mathlib.Core.Path.{_∙_}
 use mathlib.Core.List.{List}
 use Prim.Native.Nat.{ℕ}
 use Rattle.node.specs.declared.Gain.{Gain}
+use Rattle.node.proofs.Areas.{rows-gains}
 use Rattle.mix.specs.Mix.{gained}
-use Rattle.run_kinds.proofs.Fits.{rows-gains, rows-values, same-call, node-room, gain-apart, used-count}
+use Rattle.run_kinds.proofs.Fits.{rows-values, same-call, node-room, gain-apart, used-count}
 use borrow.Author.Needs.{needs}
 use Rattle.run_kinds.proofs.gain_buffers.Statement.{statement}
 use Rattle.run_kinds.proofs.gain_buffers.Tie as tie
 
-mul-at : tie.Need-mul-at
-mul-at c = search needs
+cur-of-requires : tie.Need-cur-of-requires
+cur-of-requires c κs = search needs
 
-row-requires : tie.Need-row-requires
-row-requires c κs = search needs
+target-of-requires : tie.Need-target-of-requires
+target-of-requires c κs = search needs
 
-add-row : tie.Need-add-row
-add-row c = search needs
+step-of-requires : tie.Need-step-of-requires
+step-of-requires c κs = search needs
 
-row-requires-2 : tie.Need-row-requires-2
-row-requires-2 c κs = search needs
-
-mul-row : tie.Need-mul-row
-mul-row c = search needs
-
-add-row-2 : tie.Need-add-row-2
-add-row-2 c = search needs
-
-row-requires-3 : tie.Need-row-requires-3
-row-requires-3 c κs = search needs
-
-mul-left : tie.Need-mul-left
-mul-left c = search needs
-
-add-left : tie.Need-add-left
-add-left c = search needs
-
-mul-left-2 : tie.Need-mul-left-2
-mul-left-2 c = search needs
-
-shared-slice-read-left : tie.Need-shared-slice-read-left
-shared-slice-read-left c = search needs
+left-of-requires : tie.Need-left-of-requires
+left-of-requires c κs = search needs
 
 numbers-requires : tie.Need-numbers-requires
 numbers-requires c κs = search needs
@@ -55,7 +35,7 @@ gain-requires c κs =
     let f = s .pre .0 in
     let from = c .before .before .numbers .ensures in
     let to = c .before .numbers2 .ensures in
-    (gain-apart f (s .pre .1 .1) from to, rows-values (a .floats .now) (a .words .now) (a .node) _ (node-room f .0) (used-count f (s .pre .1 .0) from to) (c .before .before .before .before .before .before .row .ensures) (c .before .before .before .before .before .row2 .ensures) (c .before .before .before .before .row3 .ensures))
+    (gain-apart f (s .pre .1 .1) from to, rows-values (a .floats .now) (a .node) _ (node-room f .0) (used-count f (s .pre .1 .0) from to) (c .before .before .before .before .before .before .cur-of .ensures) (c .before .before .before .before .before .target-of .ensures) (c .before .before .before .before .step-of .ensures))
 
 same-length : tie.Need-same-length
 same-length c = search needs
@@ -65,24 +45,17 @@ returns c =
     let a = c .before .before .before .before .before .before .before .before .before .before .before .before .before .before .args in
     c .before .before .gain .ensures
     ∙ same-call (λ (g : ℕ → Gain) (s d : List ℕ). gained (a .plan .block) g 0 s d (a .buffers .now))
-    (rows-gains (a .floats .now) (a .words .now) (a .node) (c .before .before .before .before .before .before .before .before .before .row .ensures) (c .before .before .before .before .before .before .before .before .row2 .ensures) (c .before .before .before .before .before .before .before .row3 .ensures) refl)
+    (rows-gains (a .floats .now) (a .words .now) (a .node) (c .before .before .before .before .before .before .before .before .before .cur-of .ensures) (c .before .before .before .before .before .before .before .before .target-of .ensures) (c .before .before .before .before .before .before .before .step-of .ensures) (c .before .before .before .before .before .before .left-of .ensures))
     (c .before .before .before .before .before .numbers .ensures) (c .before .before .before .before .numbers2 .ensures)
 
 pub gain-buffers-spec : {M : Type 1} → statement M
 gain-buffers-spec =
     tie.close
     (tie.spec
-    mul-at
-    row-requires
-    add-row
-    row-requires-2
-    mul-row
-    add-row-2
-    row-requires-3
-    mul-left
-    add-left
-    mul-left-2
-    shared-slice-read-left
+    cur-of-requires
+    target-of-requires
+    step-of-requires
+    left-of-requires
     numbers-requires
     numbers-requires-2
     gain-requires

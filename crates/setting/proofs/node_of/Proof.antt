@@ -22,23 +22,17 @@ loop-holds c = (omega arith, refl)
 sub-i : tie.Need-sub-i Inv-loop μ-loop
 sub-i c = search needs
 
-mul-if1 : tie.Need-mul-if1 Inv-loop μ-loop
-mul-if1 c = search needs
-
-mul-if1-2 : tie.Need-mul-if1-2 Inv-loop μ-loop
-mul-if1-2 c = search needs
-
-shared-slice-read-if1 : tie.Need-shared-slice-read-if1 Inv-loop μ-loop
-shared-slice-read-if1 c = search needs
+id-of-requires : tie.Need-id-of-requires Inv-loop μ-loop
+id-of-requires c κs = search needs
 
 returns : tie.Need-returns Inv-loop μ-loop
-returns c = sym (c .before .before .before .loop .inv .1 ∙ node-here _ _ (above _ (c .before .before .loop-test .taken)) (eq-eqb _ _ (c .if1 .taken)))
+returns c = sym (c .before .before .before .loop .inv .1 ∙ node-here _ _ (above _ (c .before .before .loop-test .taken)) (eq-eqb _ _ (sym (c .before .id-of .ensures) ∙ c .if1 .taken)))
 
 loop-less : tie.Need-loop-less Inv-loop μ-loop
 loop-less c = search needs
 
 loop-again : tie.Need-loop-again Inv-loop μ-loop
-loop-again c = (omega arith, c .before .before .before .loop .inv .1 ∙ node-before _ _ (above _ (c .before .before .loop-test .taken)) (ne-eqb _ _ (c .if1 .left)))
+loop-again c = (omega arith, c .before .before .before .loop .inv .1 ∙ node-before _ _ (above _ (c .before .before .loop-test .taken)) (ne-eqb _ _ (λ e. c .if1 .left (c .before .id-of .ensures ∙ e))))
 
 returns-2 : tie.Need-returns-2 Inv-loop μ-loop
 returns-2 c = sym (c .before .loop .inv .1 ∙ node-none _ _ (omega arith))
@@ -51,9 +45,7 @@ node-of-spec =
     μ-loop
     loop-holds
     sub-i
-    mul-if1
-    mul-if1-2
-    shared-slice-read-if1
+    id-of-requires
     returns
     loop-less
     loop-again

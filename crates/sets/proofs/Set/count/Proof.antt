@@ -4,6 +4,7 @@ use mathlib.Core.Path.{sym}
 use native.Mathlib.Omega.{arith}
 use borrow.Author.Needs.{needs}
 use lib.Count.{ones}
+use Rattle.sets.specs.Sets.{setSize}
 use Rattle.sets.proofs.Laws.{length-members-le}
 use Rattle.sets.proofs.Words.{Fits, length-members}
 use Rattle.sets.proofs.Set.count.Statement.{statement}

@@ -18,7 +18,7 @@ use Rattle.node.specs.Sizes.{maxValues, nodeFloats, nodeWords}
 use Rattle.node.specs.Nodes.{at, changed, onRamp, advanced, finishBlock}
 use Rattle.node.specs.Areas.{Room, lenAt, leftAt, nodeAt, floatsOf, wordsOf, storedFloats, storedWords}
 use Rattle.node.proofs.Left.{finish-rest}
-use Rattle.run_kinds.specs.Loops.{curRow}
+use Rattle.node_areas.specs.Loops.{curRow}
 
 -- ---- parts of a list, stored where they are
 module _ {A : Type 0} (l : List A) where

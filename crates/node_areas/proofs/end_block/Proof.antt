@@ -1,13 +1,13 @@
--- `run_kinds::end_block` meets its contract: at rest, on a ramp that goes on, and on one that ends. Assumes nothing.
+-- `node_areas::end_block` meets its contract: at rest, on a ramp that goes on, and on one that ends. Assumes nothing.
 use mathlib.Core.Path.{ap, _∙_}
 use native.Mathlib.Omega.{arith}
 use Rattle.node.specs.declared.Node.{Node}
 use Rattle.node.specs.Nodes.{finishBlock}
 use Rattle.node.specs.Areas.{nodeAt, storedFloats, storedWords}
-use Rattle.run_kinds.proofs.Rest.{rest-floats, rest-words, on-floats, on-words}
+use Rattle.node_areas.proofs.Rest.{rest-floats, rest-words, on-floats, on-words}
 use borrow.Author.Needs.{needs}
-use Rattle.run_kinds.proofs.end_block.Statement.{statement}
-use Rattle.run_kinds.proofs.end_block.Tie as tie
+use Rattle.node_areas.proofs.end_block.Statement.{statement}
+use Rattle.node_areas.proofs.end_block.Tie as tie
 
 mul-w : tie.Need-mul-w
 mul-w c = search needs

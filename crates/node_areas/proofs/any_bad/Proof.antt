@@ -1,13 +1,13 @@
--- `node::any_bad` meets its contract. After i turns none of the first i nodes was bad. Assumes nothing.
+-- `node_areas::any_bad` meets its contract. After i turns none of the first i nodes was bad. Assumes nothing.
 use Prim.Native.Nat.{_≤_, _-_}
 use native.Mathlib.Omega.{arith}
 use mathlib.Core.Path.{_≡_, refl, sym, ap, _∙_}
 use mathlib.Core.Bool.{false}
 use borrow.Author.Needs.{needs}
 use Rattle.node.specs.Areas.{badNode, someBad}
 use Rattle.node.proofs.Bad.{none-bad-more, some-bad}
-use Rattle.node.proofs.any_bad.Statement.{statement}
-use Rattle.node.proofs.any_bad.Tie as tie
+use Rattle.node_areas.proofs.any_bad.Statement.{statement}
+use Rattle.node_areas.proofs.any_bad.Tie as tie
 
 abbrev Inv-loop : tie.InvT-loop
 Inv-loop words count i₀ i = (i ≤ count) × (someBad words i ≡ false)

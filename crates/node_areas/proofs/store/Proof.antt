@@ -1,14 +1,14 @@
--- `node::store` meets its contract: three rows stored one after the other are the floats of the node. Assumes nothing.
+-- `node_areas::store` meets its contract: three rows stored one after the other are the floats of the node. Assumes nothing.
 use native.Mathlib.Numerals.{towards-suc}
 use native.Mathlib.Omega.{arith}
 use mathlib.Core.Path.{_≡_}
 use lib.ListN.{length, length-set}
 use borrow.Author.Needs.{needs}
 use Rattle.node.specs.Sizes.{maxValues}
 use Rattle.node.specs.Areas.{wordsOf}
 use Rattle.node.proofs.Areas.{stored-rows}
-use Rattle.node.proofs.store.Statement.{statement}
-use Rattle.node.proofs.store.Tie as tie
+use Rattle.node_areas.proofs.store.Statement.{statement}
+use Rattle.node_areas.proofs.store.Tie as tie
 
 -- what owning the node tells
 lengths : (c : tie.Start) → (length (c .args .node .cur) ≡ maxValues) × (length (c .args .node .target) ≡ maxValues)
@@ -25,9 +25,6 @@ add-store-row c = search needs
 
 store-row-requires-2 : tie.Need-store-row-requires-2
 store-row-requires-2 c κs = search needs
-
-mul-store-row : tie.Need-mul-store-row
-mul-store-row c = search needs
 
 add-store-row-2 : tie.Need-add-store-row-2
 add-store-row-2 c = search needs
@@ -90,7 +87,6 @@ store-spec =
     store-row-requires
     add-store-row
     store-row-requires-2
-    mul-store-row
     add-store-row-2
     store-row-requires-3
     mul-w

@@ -1,8 +1,8 @@
--- `node::load` meets its contract, by what `load_row` ensures of each row. Assumes nothing.
+-- `node_areas::load` meets its contract, by what `load_row` ensures of each row. Assumes nothing.
 use borrow.Author.Needs.{needs}
 use Rattle.node.specs.Areas.{nodeAt}
-use Rattle.node.proofs.load.Statement.{statement}
-use Rattle.node.proofs.load.Tie as tie
+use Rattle.node_areas.proofs.load.Statement.{statement}
+use Rattle.node_areas.proofs.load.Tie as tie
 
 mul-at : tie.Need-mul-at
 mul-at c = search needs
@@ -16,9 +16,6 @@ add-load-row c = search needs
 load-row-requires-2 : tie.Need-load-row-requires-2
 load-row-requires-2 c κs = search needs
 
-mul-load-row : tie.Need-mul-load-row
-mul-load-row c = search needs
-
 add-load-row-2 : tie.Need-add-load-row-2
 add-load-row-2 c = search needs
 
@@ -31,11 +28,11 @@ mul-w c = search needs
 mul-t9 : tie.Need-mul-t9
 mul-t9 c = search needs
 
-shared-slice-read-t12 : tie.Need-shared-slice-read-t12
-shared-slice-read-t12 c = search needs
+shared-slice-read-t11 : tie.Need-shared-slice-read-t11
+shared-slice-read-t11 c = search needs
 
-add-t10 : tie.Need-add-t10
-add-t10 c = search needs
+add-t12 : tie.Need-add-t12
+add-t12 c = search needs
 
 mul-t13 : tie.Need-mul-t13
 mul-t13 c = search needs
@@ -64,13 +61,12 @@ load-spec =
     load-row-requires
     add-load-row
     load-row-requires-2
-    mul-load-row
     add-load-row-2
     load-row-requires-3
     mul-w
     mul-t9
-    shared-slice-read-t12
-    add-t10
+    shared-slice-read-t11
+    add-t12
     mul-t13
     shared-slice-read-t15
     add-t16

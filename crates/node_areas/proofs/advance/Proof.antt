@@ -1,4 +1,4 @@
--- `run_kinds::advance` meets its contract. After i turns the first i values of cur have moved on. Assumes nothing.
+-- `node_areas::advance` meets its contract. After i turns the first i values of cur have moved on. Assumes nothing.
 use Prim.Native.Nat.{ℕ, _+_, _-_, _≤_}
 use native.Mathlib.Omega.{arith}
 use mathlib.Core.Path.{_≡_, refl, ap, _∙_}
@@ -6,10 +6,10 @@ use lib.ListN.{length, length-set}
 use lib.Seq.{sets}
 use borrow.Author.Needs.{needs}
 use Rattle.node.proofs.Casts.{exact}
-use Rattle.run_kinds.specs.Loops.{curRow}
-use Rattle.run_kinds.proofs.Rest.{row-starts, row-turn}
-use Rattle.run_kinds.proofs.advance.Statement.{statement}
-use Rattle.run_kinds.proofs.advance.Tie as tie
+use Rattle.node_areas.specs.Loops.{curRow}
+use Rattle.node_areas.proofs.Rest.{row-starts, row-turn}
+use Rattle.node_areas.proofs.advance.Statement.{statement}
+use Rattle.node_areas.proofs.advance.Tie as tie
 
 abbrev Inv-loop : tie.InvT-loop
 Inv-loop floats₀ at len m i₀ floats i = (i ≤ len) × (floats ≡ sets floats₀ at (curRow floats₀ at m i)) × (length floats ≡ length floats₀)
@@ -29,17 +29,14 @@ mul-floats c = search needs
 slice-read-floats : tie.Need-slice-read-floats Inv-loop μ-loop
 slice-read-floats c = search needs
 
-mul-floats-2 : tie.Need-mul-floats-2 Inv-loop μ-loop
-mul-floats-2 c = search needs
-
 add-floats-2 : tie.Need-add-floats-2 Inv-loop μ-loop
 add-floats-2 c = search needs
 
 add-floats-3 : tie.Need-add-floats-3 Inv-loop μ-loop
 add-floats-3 c = search needs
 
-mul-floats-3 : tie.Need-mul-floats-3 Inv-loop μ-loop
-mul-floats-3 c = search needs
+mul-floats-2 : tie.Need-mul-floats-2 Inv-loop μ-loop
+mul-floats-2 c = search needs
 
 slice-read-floats-2 : tie.Need-slice-read-floats-2 Inv-loop μ-loop
 slice-read-floats-2 c = search needs
@@ -50,8 +47,8 @@ int-to-float-floats c = exact _ (c .before .before .before .before .before .pre 
 add-floats-4 : tie.Need-add-floats-4 Inv-loop μ-loop
 add-floats-4 c = search needs
 
-mul-floats-4 : tie.Need-mul-floats-4 Inv-loop μ-loop
-mul-floats-4 c = search needs
+mul-floats-3 : tie.Need-mul-floats-3 Inv-loop μ-loop
+mul-floats-3 c = search needs
 
 slice-write-floats : tie.Need-slice-write-floats Inv-loop μ-loop
 slice-write-floats c = search needs
@@ -92,14 +89,13 @@ advance-spec =
     add-floats
     mul-floats
     slice-read-floats
-    mul-floats-2
     add-floats-2
     add-floats-3
-    mul-floats-3
+    mul-floats-2
     slice-read-floats-2
     int-to-float-floats
     add-floats-4
-    mul-floats-4
+    mul-floats-3
     slice-write-floats
     add-i
     loop-less

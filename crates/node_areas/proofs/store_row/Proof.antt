@@ -1,4 +1,4 @@
--- `node::store_row` meets its contract. After i turns the first i floats of the row are stored. Assumes nothing.
+-- `node_areas::store_row` meets its contract. After i turns the first i floats of the row are stored. Assumes nothing.
 use Prim.Native.Nat.{_≤_, _+_, _-_}
 use native.Mathlib.Omega.{arith}
 use mathlib.Core.List.{List}
@@ -8,9 +8,9 @@ use lib.ListN.{length, take, getD, set, length-set}
 use lib.Seq.{sets, take-all}
 use borrow.Author.Needs.{needs}
 use Rattle.lists.proofs.Stores.{sets-more}
 use Rattle.node.specs.Sizes.{maxValues}
-use Rattle.node.proofs.store_row.Statement.{statement}
-use Rattle.node.proofs.store_row.Tie as tie
+use Rattle.node_areas.proofs.store_row.Statement.{statement}
+use Rattle.node_areas.proofs.store_row.Tie as tie
 
 abbrev Inv-loop : tie.InvT-loop
 Inv-loop floats₀ at row i₀ floats i = (i ≤ maxValues) × (length floats ≡ length floats₀) × (floats ≡ sets floats₀ at (take i row))

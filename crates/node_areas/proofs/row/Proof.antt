@@ -1,11 +1,11 @@
--- `run_kinds::row` meets its contract. Assumes nothing.
+-- `node_areas::row` meets its contract. Assumes nothing.
 use mathlib.Core.Path.{_≡_, ap}
 use Prim.Native.Nat.{ℕ, _+_, _-_}
 use native.Mathlib.Omega.{arith}
 use lib.ListN.{take, drop}
 use borrow.Author.Needs.{needs}
-use Rattle.run_kinds.proofs.row.Statement.{statement}
-use Rattle.run_kinds.proofs.row.Tie as tie
+use Rattle.node_areas.proofs.row.Statement.{statement}
+use Rattle.node_areas.proofs.row.Tie as tie
 
 add-end : tie.Need-add-end
 add-end c = search needs

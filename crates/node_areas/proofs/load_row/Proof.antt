@@ -1,4 +1,4 @@
--- `node::load_row` meets its contract. After i turns the row has its first i floats. Assumes nothing.
+-- `node_areas::load_row` meets its contract. After i turns the row has its first i floats. Assumes nothing.
 use Prim.Native.Nat.{ℕ, _≤_, _+_, _-_}
 use native.Mathlib.Omega.{arith}
 use mathlib.Core.List.{List}
@@ -8,9 +8,9 @@ use lib.ListN.{set, getD, replicate}
 use borrow.Author.Needs.{needs}
 use Rattle.lists.specs.Parts.{upto}
 use Rattle.lists.proofs.Filled.{upto-more, upto-part}
 use Rattle.node.specs.Sizes.{maxValues}
-use Rattle.node.proofs.load_row.Statement.{statement}
-use Rattle.node.proofs.load_row.Tie as tie
+use Rattle.node_areas.proofs.load_row.Statement.{statement}
+use Rattle.node_areas.proofs.load_row.Tie as tie
 
 abbrev Inv-loop : tie.InvT-loop
 Inv-loop floats at row₀ i₀ row i = (i ≤ maxValues) × (row ≡ upto i (λ (j : ℕ). getD floats (at + j) nan) row₀)

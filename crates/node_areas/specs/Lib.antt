@@ -1,0 +1,2 @@
+-- What the contracts of the private functions cite.
+pub mod Loops
