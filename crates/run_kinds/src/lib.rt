@@ -187,7 +187,8 @@ pub fn run_send(
         src,
         dst,
     );
-    node_areas::end_block(floats, words, node as usize, plan.block);
+    let n = node as usize;
+    node_areas::end_block(floats, words, n, plan.block);
 }
 
 // Patch: the first block samples of a channel's part, or +0 where it counts as absent. Requires that the buffer lies within the area.
