@@ -1,4 +1,4 @@
--- Document 01's case 8, and a plan with a fault of its own, over the step words and by computation alone. Assumes nothing.
+-- Document 01's case 8, and a plan with a fault of its own, over the step words; what a Patch and a Clear do to a set. All by computation. Assumes nothing.
 use mathlib.Core.Path.{_≡_, refl, _∙_}
 use mathlib.Core.List.{List, [], _∷_, _++_}
 use Prim.Native.Nat.{ℕ}
@@ -11,7 +11,7 @@ use Rattle.sets.specs.Sets.{sift}
 use Rattle.plan.specs.declared.Plan.{Plan}
 use Rattle.plan.specs.Words.{patchMap, clearMap, sendMap, outputMap, stepOf, readAt, decodedFrom, decoded}
 use Rattle.plan.specs.Check.{idAmong, idTwice, outside, tooWide, shares, stepsTests, checked}
-use Rattle.plan.specs.Resolved.{resolvedSteps}
+use Rattle.plan.specs.Resolved.{patch, clear, output, resolvedSteps}
 use Rattle.trace.specs.Sources.{union, spread, joins, behind, sourceList, slotCount}
 use Rattle.trace.specs.Clean.{written, all, cleanStep, cleanFrom, clean}
 use Rattle.trace.specs.Calls.{tracedSteps, traceAnswer, sourcesAnswer, sourcesArea, allTraced, allAnswer, allCounts, allLists, cleanAnswer}
@@ -99,3 +99,12 @@ case-8-clean = refl
 pub send-to-unwritten : cleanAnswer unclear indices (7 ∷ 1 ∷ 0 ∷ []) (patchMap ∷ 3 ∷ 0 ∷ 0 ∷ sendMap ∷ 0 ∷ 0 ∷ 1 ∷ 1 ∷ 1 ∷ 0 ∷ 1 ∷ outputMap ∷ 1 ∷ 1 ∷ 2 ∷ []) ≡ NotClean
 unfolding cleanAnswer checked someFrom idAmong idTwice stepsTests readAt stepOf ones onesIn outside tooWide has meet shares decoded decodedFrom written all cleanStep cleanFrom clean
 send-to-unwritten = refl
+
+-- ---- a Patch replaces what a buffer had, and a Clear empties it
+pub patch-replaces : sourceList 0 (patch 3 0 0 ∷ patch 5 0 0 ∷ output (0 ∷ []) 0 ∷ []) ≡ 5 ∷ []
+unfolding has sift union spread joins behind sourceList
+patch-replaces = refl
+
+pub clear-empties : sourceList 0 (patch 3 0 0 ∷ clear (0 ∷ []) ∷ output (0 ∷ []) 0 ∷ []) ≡ []
+unfolding has sift union spread joins behind sourceList
+clear-empties = refl

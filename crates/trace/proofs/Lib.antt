@@ -6,5 +6,5 @@ pub mod Behind
 pub mod Lists
 -- what the answers say
 pub mod Answers
--- document 01's case 8, and a plan with a fault of its own
+-- document 01's case 8, a plan with a fault of its own, and what a Patch and a Clear do to a set
 pub mod Examples
