@@ -1,4 +1,4 @@
--- Laws that belong to no one function, for the crates above too.
+-- Laws that belong to no one function.
 
 -- which test answers, what an accepted adoption says, and what the call leaves by its answer
 pub mod Answers

@@ -1,4 +1,5 @@
-// The tests of the builder calls, in their order. None writes.
+// The tests of the builder calls but `buffer`, in their order. None writes.
+// All of it is for the crates above and not the interface: a function that has a `requires` says in its comment what it takes.
 use node::Node;
 use plan::Plan;
 use plan::Read;

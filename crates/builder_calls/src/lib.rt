@@ -5,6 +5,7 @@ mod areas;
 use builder::NumberAnswer;
 use builder::SpanAnswer;
 use lists::put_floats;
+use lists::smaller;
 use node::Node;
 use plan::Plan;
 use plan::Span;
@@ -105,7 +106,7 @@ impl PlanBuilder {
         ensures { λ r. ⌜ r ≡ bufferNumber plan span i (now (indices .entry)) ⌝ }
     {
         let start = span.start as usize;
-        let end = lists::smaller(plan.indices, indices.len());
+        let end = smaller(plan.indices, indices.len());
         if end <= start {
             return NumberAnswer::Refused(Refusal::of(Refusal::SHORT_AREA));
         }

@@ -2,6 +2,7 @@
 use crate::answers;
 use crate::floats;
 use crate::plans;
+use node::Node;
 use plan::Plan;
 use run::Ran;
 
@@ -41,12 +42,12 @@ fn ran(
     }
 }
 
-// Whether the node is at rest: the last of its words is the samples left.
+// Whether node 0 is at rest.
 fn rest(node_words: &[u32]) {
-    if node_words.len() < 3 {
+    if node_words.len() < Node::WORDS {
         return;
     }
-    if node_words[2] == 0 {
+    if node_areas::left_of(node_words, 0) == 0 {
         text::put(b"; at rest");
         return;
     }

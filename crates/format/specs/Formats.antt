@@ -49,10 +49,3 @@ indexOf f l = position l (labels f)
 unfoldable pub has : ℕ → ℕ → Bool
 unfolding indexOf channels
 has f l = ltb (indexOf f l) (channels f)
-
--- 1 for L, Ls, Lss, Lrs, Ltf and Ltr, 2 for the right one of each pair, 0 for M, C and LFE, by label
-abbrev pub sides : List ℕ
-sides = 0 ∷ 1 ∷ 2 ∷ 0 ∷ 0 ∷ 1 ∷ 2 ∷ 1 ∷ 2 ∷ 1 ∷ 2 ∷ 1 ∷ 2 ∷ 1 ∷ 2 ∷ []
-
-unfoldable pub side : ℕ → ℕ
-side l = getD sides l 0

@@ -6,9 +6,9 @@ use lib.Ieee.{Float, nan, inf, binary32, binary64, round, add, sub, mul, div, ne
 use Rattle.refusal.specs.Tests.{refusal}
 use Rattle.refusal.specs.declared.Answer.the-variants.{Accepted, Refused}
 use Rattle.rounding.specs.Narrow.{pattern, narrowedBits, narrowed}
-use Rattle.format.specs.Formats.{labels, channels, side}
+use Rattle.format.specs.Formats.{labels, channels}
 use Rattle.format.specs.Floats.{one64, two64, one32}
-use Rattle.format_balance.specs.Balance.{finite, clamp, atMostOne, leftGain, rightGain, ofSide, gainsOf, balanceOf, balanceAnswer, balanceArea, widthIn, stereoMatrix}
+use Rattle.format_balance.specs.Balance.{finite, clamp, atMostOne, leftGain, rightGain, ofSide, gainsOf, balanceOf, balanceAnswer, balanceArea, widthIn, stereoMatrix, side}
 use Rattle.format_balance.specs.declared.Stereo.the-variants as stereo
 
 -- 0.5 as an f64 and as an f32

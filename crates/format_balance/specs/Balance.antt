@@ -3,7 +3,7 @@ use Prim.Native.Nat.{ℕ}
 use mathlib.Core.Bool.{Bool, true, false, not, _&&_, cond}
 use mathlib.Core.List.{List, [], _∷_, _++_, map}
 use lib.Dec.{eqb, ltb}
-use lib.ListN.{length, drop}
+use lib.ListN.{length, drop, getD}
 use lib.Ieee.{Float, nan, inf, fin, binary64, add, sub, mul, div, lt, le}
 use Rattle.refusal.specs.Numbers.{shortArea, noFormat, outOfRange}
 use Rattle.refusal.specs.Tests.{Test, test, first, outcome, areaAfter}
@@ -11,7 +11,7 @@ use Rattle.refusal.specs.declared.Answer.{Answer}
 use Rattle.refusal.specs.declared.Answer.the-variants.{Accepted}
 use Rattle.rounding.specs.Narrow.{narrowed}
 use Rattle.format.specs.Floats.{one64, two64, minusOne64, minusTwo64, one32}
-use Rattle.format.specs.Formats.{unknownFormat, labels, channels, side}
+use Rattle.format.specs.Formats.{unknownFormat, labels, channels}
 use Rattle.format_balance.specs.declared.Gains.{Gains}
 use Rattle.format_balance.specs.declared.Gains.the-variants as gains
 use Rattle.format_balance.specs.declared.Stereo.{Stereo}
@@ -49,6 +49,13 @@ unfolding leftGain rightGain finite
 balanceGains b = outcome (first (gainsTests b) Accepted) (gains.Pair (leftGain b) (rightGain b)) gains.Refused
 
 -- ---- `balance_of`: 16, 17, 2
+
+-- 1 for L, Ls, Lss, Lrs, Ltf and Ltr, 2 for the right one of each pair, 0 for M, C and LFE, by label
+abbrev pub sides : List ℕ
+sides = 0 ∷ 1 ∷ 2 ∷ 0 ∷ 0 ∷ 1 ∷ 2 ∷ 1 ∷ 2 ∷ 1 ∷ 2 ∷ 1 ∷ 2 ∷ 1 ∷ 2 ∷ []
+
+unfoldable pub side : ℕ → ℕ
+side l = getD sides l 0
 
 -- the gain of a channel by its side: of a left one l, of a right one r, of M, C and LFE 1
 unfoldable pub ofSide : Float → Float → ℕ → Float

@@ -7,7 +7,8 @@ ghost use mathlib.Core.Path.{_≡_};
 ghost use Prim.Native.Nat.{_≤_};
 ghost use mathlib.Core.List.{_++_};
 ghost use lib.ListN.{length, drop};
-ghost use Rattle.format.specs.Formats.{channels, side};
+ghost use Rattle.format.specs.Formats.{channels};
+ghost use Rattle.format_balance.specs.Balance.{side};
 ghost use Rattle.format_balance.specs.Balance.{finite, clamp, atMostOne, leftGain, rightGain, balanceGains, ofSide, gainsOf, balanceAnswer, balanceArea, widthIn, stereoMatrix};
 
 // The side of each label: 1 left, 2 right, 0 neither. LFE is on no side.

@@ -1,4 +1,5 @@
 // Lists: their parts, stores and entries as definitions with their laws, and the functions on counts and lists that several crates share.
+// All of it is for the crates above and not the interface: a function that has a `requires` says in its comment what it takes.
 ghost use mathlib.Core.Path.{_≡_};
 ghost use Prim.Native.Nat.{_+_, _≤_, min};
 ghost use lib.ListN.{length};

@@ -58,7 +58,7 @@ module _ (block : ℕ) (gain : ℕ → Gain) where
       ap (λ (x : Float). rowSample block gain (suc v) src b k (added (gain v) k x y)) (h 0 (omega arith))
       ∙ row-same (suc v) src a b k (added (gain v) k (sample block a s k) y) (λ i l. h (suc i) (omega arith))
 
-  -- ---- the columns of a wholePiece in a local t: none, one more, and all
+  -- ---- the columns of a piece in a local t: none, one more, and all
   module _ (v : ℕ) (src : List ℕ) (area : List Float) (j m : ℕ) (t₀ : List Float) where
     -- what is left to do from column c on makes what there is to do in all
     unfoldable pub Left : ℕ → List Float → Type 0

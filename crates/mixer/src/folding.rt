@@ -1,4 +1,4 @@
-// The calls of crates `format`, `fold` and `rounding`.
+// The calls of crates `format`, `format_balance`, `format_fold` and `rounding`.
 use format::Format;
 use format_fold::FoldGains;
 use mixer_replies::GainsReply;

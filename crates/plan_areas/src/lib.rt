@@ -1,4 +1,5 @@
 // The tests of a plan as a whole: its block (number 1), its counts (5), its areas (2), its index entries (4) and the ids of its nodes (8).
+// All of it is for the crates above and not the interface: a function that has a `requires` says in its comment what it takes.
 use node::Node;
 use plan::Plan;
 ghost use mathlib.Core.Path.{_≡_};

@@ -3,11 +3,17 @@ use plan::Counted;
 use plan::Plan;
 use plan::Read;
 use plan::Step;
+use plan_areas::ascend;
 use plan_areas::bad_block;
+use plan_areas::id_twice;
 use plan_areas::over_limits;
 use plan_areas::short_areas;
 use plan_areas::short_lists;
+use plan_areas::some_from;
 use plan_reader::read_step;
+use plan_steps::step_channels;
+use plan_steps::step_outside;
+use plan_steps::step_shares;
 use plan_steps::step_wide;
 use refusal::Answer;
 use refusal::Refusal;
@@ -28,13 +34,13 @@ fn check_step(plan: Plan, indices: &[u32], ascending: bool, step: Step, place: u
     requires { ⌜ IndexList plan (now indices) × (ascending ≡ true → Ascending 1 (plan .indices) (now indices)) ⌝ }
     ensures { λ r. ⌜ r ≡ first (stepTests plan (now (indices .entry)) place (Read.Found step 0) (λ _. [])) Answer.Accepted ⌝ }
 {
-    if plan_steps::step_outside(plan, step) {
+    if step_outside(plan, step) {
         return Answer::Refused(Refusal::at(Refusal::OUTSIDE_TABLE, place));
     }
     if step_wide(step) {
         return Answer::Refused(Refusal::at(Refusal::TOO_MANY_VALUES, place));
     }
-    if plan_steps::step_shares(plan, indices, ascending, step) {
+    if step_shares(plan, indices, ascending, step) {
         return Answer::Refused(Refusal::at(Refusal::SHARED_BUFFER, place));
     }
     Answer::Accepted
@@ -58,7 +64,7 @@ fn check_steps(plan: Plan, indices: &[u32], ascending: bool, words: &[u32]) -> C
         if let Answer::Refused(r) = check_step(plan, indices, ascending, step, place) {
             return Counted::Refused(r);
         }
-        total += plan_steps::step_channels(step) as usize;
+        total += step_channels(step) as usize;
         at = next;
         i += 1;
     }
@@ -87,13 +93,13 @@ fn check_counting(
         return Counted::Refused(Refusal::of(Refusal::SHORT_AREA));
     }
     let entries = plan.indices;
-    if plan_areas::some_from(plan.buffers, &indices[..entries]) {
+    if some_from(plan.buffers, &indices[..entries]) {
         return Counted::Refused(Refusal::of(Refusal::OUTSIDE_TABLE));
     }
-    if plan_areas::id_twice(node_words, plan.nodes) {
+    if id_twice(node_words, plan.nodes) {
         return Counted::Refused(Refusal::of(Refusal::ID_TAKEN));
     }
-    let ascending = plan_areas::ascend(indices, entries, 1);
+    let ascending = ascend(indices, entries, 1);
     let words = plan.words;
     check_steps(plan, indices, ascending, &steps[..words])
 }

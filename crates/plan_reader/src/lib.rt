@@ -1,4 +1,5 @@
 // The steps as the step words hold them: a map, then a word for each of its bits that has a field.
+// All of it is for the crates above and not the interface: a function that has a `requires` says in its comment what it takes.
 use plan::Read;
 use plan::Span;
 use plan::Step;

@@ -1,4 +1,5 @@
 // The tests of a step that was read (numbers 4, 7 and 6), the buffers that its spans name, and the channels that it appends to the output.
+// All of it is for the crates above and not the interface: a function that has a `requires` says in its comment what it takes.
 use node::Node;
 use plan::Plan;
 use plan::Span;
@@ -28,7 +29,7 @@ fn values(src: Span, dst: Span) -> usize
 }
 
 // The channels that a Gain uses.
-pub fn used(src: Span, dst: Span) -> u32
+fn used(src: Span, dst: Span) -> u32
     ensures { λ r. ⌜ r ≡ used src dst ⌝ }
 {
     if src.len < dst.len { src.len } else { dst.len }

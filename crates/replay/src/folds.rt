@@ -2,7 +2,6 @@
 use crate::areas;
 use crate::compare;
 use crate::data;
-use crate::data::area;
 use crate::data::floats_in;
 use crate::data::word;
 use comparison::floats;

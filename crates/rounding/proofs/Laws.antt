@@ -16,8 +16,6 @@ use Rattle.rounding.proofs.Pattern.{bits-no-nan, narrowed-number}
 use Rattle.rounding.proofs.Fields.{rounded-value, number-rounded}
 use Rattle.rounding.proofs.Signs.{or-split, or-l}
 use Rattle.rounding.proofs.Rounded.{rounded-neg, rounded-keeps, rounded-mono, grid-half, round-value, round-finite, round-infinite}
--- The whole number nearest to a / b is at most a half from it.
-pub use Rattle.rounding.proofs.Closest.{closest-half}
 
 -- By bits and by fractions, with `round binary32`, it is the same rounding.
 pub narrowed-is : (x : Float) → T (fits binary64 x) → narrowed x ≡ rounded x

@@ -26,12 +26,13 @@ use Rattle.plan.specs.Sound.{stepsOf, IndexList, Passes, Within, Inside, Each}
 use Rattle.plan.proofs.Plans.{block-none, WithinLimits, limits-none, Room, areas-none}
 use Rattle.plan.proofs.Spans.{length-named}
 use Rattle.plan.proofs.Passes.{none-passes, passes-all}
+use Rattle.plan.specs.Loops.{channelsOf}
 use Rattle.input.specs.Input.{directoryBad}
 use Rattle.run.specs.Run.{Given, State, outputChannels, stepsOfRun, admission}
-use Rattle.run.specs.Loops.{channelsOf, Fit}
+use Rattle.run.specs.Loops.{Fit}
 
 -- ---- what the plan check's acceptance says
-pub record Tested (p : Plan) (a : Areas) : Type 0 where
+pub record Checked (p : Plan) (a : Areas) : Type 0 where
   pub block : p .block ≤ maxBlock
   pub limits : WithinLimits unitLimits p
   pub room : Room p a
@@ -39,7 +40,7 @@ pub record Tested (p : Plan) (a : Areas) : Type 0 where
   pub ids : idTwice (a .nodeWords) (p .nodes) ≡ false
   pub steps : Passes p (a .indices) (take (p .words) (a .stepWords)) (p .steps) 0
 
-pub tested : (p : Plan) (a : Areas) → checkPlan p a ≡ Accepted → Tested p a
+pub tested : (p : Plan) (a : Areas) → checkPlan p a ≡ Accepted → Checked p a
 unfolding checked
 tested p a e =
     let t = accepted-none (planTests p (shortAreas p a) (a .indices) (a .nodeWords) (a .stepWords)) Accepted e .0 in

@@ -13,8 +13,8 @@ use Rattle.plan.specs.declared.Step.the-variants.{Patch, Gain, Matrix, Clear, S
 use Rattle.plan.specs.Resolved.{resolved}
 use Rattle.plan.specs.Sound.{Inside}
 use Rattle.plan.proofs.Spans.{length-named}
+use Rattle.plan.specs.Loops.{channels}
 use Rattle.run.specs.Run.{State, stepped}
-use Rattle.run.specs.Loops.{channels}
 
 pub output-room : {x : Step} (s : Span) (o block w n : ℕ) → x ≡ Output s o → w + channels x * block ≤ n → w + s .len * block ≤ n
 output-room s o block w n e h = rw e at h

@@ -1,5 +1,4 @@
--- What the contracts of the private functions cite: the channels that a step appends to the output, and what the steps take for granted.
--- Definitions only.
+-- What the contracts of the functions of crate `run_process` below `process` cite: what the steps take for granted. Definitions only.
 use Prim.Native.Nat.{ℕ, _*_, _≤_}
 use mathlib.Core.Path.{_≡_}
 use mathlib.Core.Bool.{false}
@@ -11,8 +10,6 @@ use Rattle.plan.specs.declared.Plan.{Plan}
 use Rattle.plan.specs.declared.Step.{Step}
 use Rattle.plan.specs.Limits.{maxBlock, unitLimits}
 use Rattle.plan.specs.Sound.{Inside, Narrow, Apart, IndexList}
-pub use Rattle.plan.specs.Loops.{channels}
-unfoldable pub use Rattle.plan.specs.Loops.{channelsOf}
 use Rattle.run.specs.Run.{State}
 
 -- ---- what the tests said

@@ -1,4 +1,2 @@
--- Laws that belong to no one function, for the crates above too.
-
--- what the tests said of a step, as the sample loops ask for it
-pub mod Fits
+-- For this crate's own proofs: what the tests said of a step, as the sample loops ask for it.
+mod Fits

@@ -1,5 +1,4 @@
--- What the tests said of a step, as the sample loops ask for it: the buffers that its spans name, and the gains of its node.
--- Assumes nothing.
+-- What the tests said of a step, as the functions of its kind ask for it, and the weights of a Send. Assumes nothing.
 use mathlib.Core.Path.{_≡_, subst}
 use mathlib.Core.List.{List}
 use Prim.Native.Nat.{ℕ, _≤_, _<_}

@@ -1,6 +1,7 @@
 // The tests of a run, in their order. None writes.
 use plan::Counted;
 use plan::Plan;
+use plan_check::count_channels;
 use refusal::Answer;
 use refusal::Refusal;
 ghost use mathlib.Core.Path.{_≡_};
@@ -22,15 +23,7 @@ pub fn admission(
     ensures { λ r. ⌜ r ≡ admission (given plan (now (indices .entry)) (now (coefficients .entry)) (now (steps .entry)) (now (directory .entry)) (now (samples .entry)))
         (state (now (floats .entry)) (now (words .entry)) (now (buffers .entry)) (now (output .entry)) 0) ⌝ }
 {
-    let counted = plan_check::count_channels(
-        plan,
-        indices,
-        coefficients,
-        floats,
-        words,
-        steps,
-        buffers,
-    );
+    let counted = count_channels(plan, indices, coefficients, floats, words, steps, buffers);
     let channels = match counted {
         Counted::Refused(r) => {
             return Answer::Refused(r);

@@ -16,10 +16,11 @@ ghost use lib.ListN.{length};
 ghost use Rattle.plan.specs.Words.{decoded};
 ghost use Rattle.plan.specs.Sound.{Passes};
 ghost use Rattle.plan.specs.Resolved.{resolved};
+ghost use Rattle.plan.specs.Loops.{channels, channelsOf};
 ghost use Rattle.input.specs.Input.{maxEntries, entries, lookup};
 ghost use Rattle.input.specs.Loops.{Firsts};
 ghost use Rattle.run.specs.Run.{state, stepped, runSteps};
-ghost use Rattle.run.specs.Loops.{channels, channelsOf, Fit, FitStep};
+ghost use Rattle.run.specs.Loops.{Fit, FitStep};
 
 // A step, after `wrote` samples of output; the answer is how many are written then. Requires what the tests said of the plan and of it, and
 // the first entries of the directory. All kinds are in one match: a second one costs some nanoseconds a step.

@@ -10,6 +10,10 @@ use Rattle.sets.specs.declared.Set.{Set}
 abbrev pub setSize : ℕ
 setSize = 256
 
+-- the words of a set
+abbrev pub setWords : ℕ
+setWords = 4
+
 -- bit i of a word, the lowest of which is bit 0
 abbrev pub bit : ℕ → ℕ → Bool
 bit w i = eqb (w / 2 ^ i % 2) 1

@@ -46,6 +46,8 @@ fn list_word(word: u64, base: u16, at: usize, out: &mut [u16]) -> usize
 }
 
 impl Set {
+    pub const WORDS: usize = 4;
+
     pub fn empty() -> Set
         ensures { λ r. ⌜ ((j : ℕ) → member r j ≡ false) ⌝ }
     {

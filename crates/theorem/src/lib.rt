@@ -1,1 +1,1 @@
-// The two-list theorem. This crate has definitions and theorems only; the calls that it speaks of are in builder, run and trace.
+// The two-list theorem. This crate has definitions and theorems only; the calls that it speaks of are defined in `builder`, `setting`, `input`, `run` and `trace`.

@@ -1,4 +1,5 @@
 // The clean answer's walk of a plan's steps, with the set of the buffers that are written.
+// All of it is for the crates above and not the interface: a function that has a `requires` says in its comment what it takes.
 use plan::Plan;
 use plan::Read;
 use plan::Span;

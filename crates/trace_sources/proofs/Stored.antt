@@ -16,10 +16,10 @@ use Rattle.lists.specs.Entries.{has}
 use Rattle.lists.proofs.Bools.{eqb-swap}
 use Rattle.lists.proofs.Scans.{Listed, has-listed, listed-here, listed-end}
 use Rattle.sets.specs.declared.Set.{Set}
-use Rattle.sets.specs.Sets.{member, words}
+use Rattle.sets.specs.Sets.{member, words, setWords}
 use Rattle.sets.proofs.Laws.{member-empty}
 use Rattle.trace.specs.Sources.{noSources, union}
-use Rattle.trace_sources.specs.Loops.{setWords, setAt, sourcesOf, changed, other, joined}
+use Rattle.trace_sources.specs.Loops.{setAt, sourcesOf, changed, other, joined}
 
 -- ---- the store of one set
 module _ (area : List ℕ) (b : ℕ) (s : Set) where

@@ -1,2 +1,2 @@
--- What the functions of the walk go by.
+-- What the functions of the walk, and of the calls above it, go by.
 pub mod Loops

@@ -1,4 +1,4 @@
--- What the contracts of the private functions cite: the source sets of all buffers in an area of words, what a loop over a list of buffers makes
+-- What the contracts of the walk, and of the calls above it, cite: the source sets of all buffers in an area of words, what a loop over a list of buffers makes
 -- of them, and what the walk takes for granted. Definitions only.
 use Prim.Native.Nat.{ℕ, suc, _+_, _*_, max}
 use mathlib.Core.Path.{_≡_}
@@ -7,7 +7,7 @@ use mathlib.Core.List.{List}
 use lib.ListN.{length, getD}
 use Rattle.lists.specs.Entries.{has}
 use Rattle.sets.specs.declared.Set.{Set}
-use Rattle.sets.specs.Sets.{member, members}
+use Rattle.sets.specs.Sets.{setWords, member, members}
 use Rattle.plan.specs.declared.Plan.{Plan}
 use Rattle.plan.specs.declared.Span.{Span}
 use Rattle.plan.specs.declared.Step.{Step}
@@ -16,9 +16,6 @@ use Rattle.plan.specs.Limits.{slots, unitLimits}
 use Rattle.plan.specs.Sound.{Within, Inside, IndexList}
 
 -- ---- the areas: the words of a set for each buffer that a plan can have, and for each slot
-
-abbrev pub setWords : ℕ
-setWords = 4
 
 abbrev pub areaWords : ℕ
 areaWords = unitLimits .buffers * setWords

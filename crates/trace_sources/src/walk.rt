@@ -1,5 +1,4 @@
 // The walk of a plan's steps: the inputs behind each buffer, and behind each slot.
-use crate::buffer_sets::SET_WORDS;
 use crate::buffer_sets::add;
 use crate::buffer_sets::give;
 use crate::buffer_sets::load;
@@ -26,9 +25,9 @@ ghost use Rattle.trace.specs.Sources.{noSources, union, spread, joins, behind, 
 ghost use Rattle.trace_sources.specs.Loops.{areaWords, slotWords, sourcesOf, changed, withSlot, Fit, Spans};
 
 // The words of the sets of all buffers, and of all slots.
-const AREA_WORDS: usize = Plan::MAX_BUFFERS * SET_WORDS;
+const AREA_WORDS: usize = Plan::MAX_BUFFERS * Set::WORDS;
 
-pub const SLOT_WORDS: usize = Step::SLOTS as usize * SET_WORDS;
+pub const SLOT_WORDS: usize = Step::SLOTS as usize * Set::WORDS;
 
 // The count of slots, where a step comes to those before it.
 fn with_slot(count: usize, step: Step) -> usize

@@ -7,7 +7,8 @@ use borrow.Author.Needs.{needs}
 use lib.Ieee.{Float}
 use lib.ListN.{length, getD, set}
 use Rattle.lists.proofs.Filled.{filled, filled-more, length-filled, filled-all}
-use Rattle.format.specs.Formats.{labels, channels, labelOf, side}
+use Rattle.format.specs.Formats.{labels, channels, labelOf}
+use Rattle.format_balance.specs.Balance.{side}
 use Rattle.format_balance.specs.Balance.{ofSide, gainsOf}
 use Rattle.format_balance.proofs.put_gains.Statement.{statement}
 use Rattle.format_balance.proofs.put_gains.Tie as tie

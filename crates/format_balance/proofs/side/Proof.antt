@@ -1,7 +1,7 @@
 -- `format_balance::side` meets its contract: the table is the definition's. Assumes nothing.
 use mathlib.Core.Path.{refl, sym}
 use lib.ListN.{List·getD-eq-default}
-use Rattle.format.specs.Formats.{side, sides}
+use Rattle.format_balance.specs.Balance.{side, sides}
 use borrow.Author.Needs.{needs}
 use Rattle.format_balance.proofs.side.Statement.{statement}
 use Rattle.format_balance.proofs.side.Tie as tie

@@ -9,10 +9,10 @@ use Rattle.node.specs.Areas.{someBad}
 use Rattle.plan.specs.Check.{checkPlan}
 use Rattle.plan.specs.Sound.{stepsOf}
 use Rattle.plan.proofs.Answers.{was-accepted, was-refused}
+use Rattle.plan.specs.Loops.{channelsOf}
 use Rattle.input.specs.Input.{directoryBad}
-use Rattle.run.specs.Loops.{channelsOf}
 use Rattle.run.specs.Run.{Given, State, given, state}
-use Rattle.run.proofs.Admitted.{Tested, tested, areas-of, by-plan, by-14, by-12, by-13, by-none}
+use Rattle.run.proofs.Admitted.{Checked, tested, areas-of, by-plan, by-14, by-12, by-13, by-none}
 use borrow.Author.Needs.{needs}
 use Rattle.run_process.proofs.admission.admission.Statement.{statement}
 use Rattle.run_process.proofs.admission.admission.Tie as tie
@@ -32,7 +32,7 @@ told : (c : tie.After-known-told2) → (let s = start (c .before .before .before
     (checkPlan (s .args .plan) (areas-of (g s) (st s)) ≡ Accepted) × (c .before .counted2 .given .0 .0 ≡ channelsOf (stepsOf (s .args .plan) (s .args .steps .now))))
 told c = was-accepted _ _ _ (sym (c .before .counted2 .given .1) ∙ c .before .before .before .count-channels .ensures)
 
-taken : (c : tie.After-known-told2) → (let s = start (c .before .before .before) in Tested (s .args .plan) (areas-of (g s) (st s)))
+taken : (c : tie.After-known-told2) → (let s = start (c .before .before .before) in Checked (s .args .plan) (areas-of (g s) (st s)))
 taken c = tested _ _ (told c .0)
 
 no-14 : (c : tie.Else1) → (let s = start (c .before .before .before .before .before) in someBad (s .args .words .now) (s .args .plan .nodes) ≡ false)

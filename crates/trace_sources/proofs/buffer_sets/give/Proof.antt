@@ -5,7 +5,7 @@ use native.Mathlib.Omega.{arith}
 use lib.ListN.{length}
 use borrow.Author.Needs.{needs}
 use Rattle.lists.proofs.Entries.{some-none}
-use Rattle.sets.specs.Sets.{setSize}
+use Rattle.plan.specs.Limits.{unitLimits}
 use Rattle.trace_sources.specs.Loops.{other}
 use Rattle.trace_sources.proofs.Stored.{Changing, changing-starts, changing-on, changing-ends, other-twice}
 use Rattle.trace_sources.proofs.buffer_sets.give.Statement.{statement}
@@ -30,7 +30,7 @@ store-requires : tie.Need-store-requires Inv-loop μ-loop
 store-requires c κs =
     let l = c .before .before .before in
     let s = l .before .before .before in
-    omega (arith, some-none setSize (s .args .dst .now) .0 (s .pre .0) (l .loop .k) (c .before .before .loop-test .taken), l .loop .inv .kept ∙ s .pre .1)
+    omega (arith, some-none (unitLimits .buffers) (s .args .dst .now) .0 (s .pre .0) (l .loop .k) (c .before .before .loop-test .taken), l .loop .inv .kept ∙ s .pre .1)
 
 add-k : tie.Need-add-k Inv-loop μ-loop
 add-k c = search needs

@@ -7,7 +7,8 @@ use lib.ListN.{length}
 use borrow.Author.Needs.{needs}
 use Rattle.lists.proofs.Entries.{some-none}
 use Rattle.sets.specs.declared.Set.{Set}
-use Rattle.sets.specs.Sets.{member, setSize}
+use Rattle.sets.specs.Sets.{member}
+use Rattle.plan.specs.Limits.{unitLimits}
 use Rattle.trace_sources.specs.Loops.{sourcesOf}
 use Rattle.trace_sources.proofs.Stored.{Joining, joining-starts, joining-on, joining-ends}
 use Rattle.trace_sources.proofs.buffer_sets.union_of.Statement.{statement}
@@ -34,7 +35,7 @@ shared-slice-read-load c = search needs
 load-requires : tie.Need-load-requires Inv-loop μ-loop
 load-requires c κs =
     let s = c .before .before .before .before .before .before in
-    omega (arith, some-none setSize (s .args .src .now) .0 (s .pre .0) (c .before .before .loop .k) (c .before .loop-test .taken), s .pre .1)
+    omega (arith, some-none (unitLimits .buffers) (s .args .src .now) .0 (s .pre .0) (c .before .before .loop .k) (c .before .loop-test .taken), s .pre .1)
 
 union-requires : tie.Need-union-requires Inv-loop μ-loop
 union-requires c κs = search needs

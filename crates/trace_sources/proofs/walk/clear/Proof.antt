@@ -3,7 +3,7 @@ use mathlib.Core.Path.{ap, _∙_}
 use mathlib.Core.Bool.{false}
 use borrow.Author.Needs.{needs}
 use Rattle.lists.specs.Entries.{someFrom}
-use Rattle.sets.specs.Sets.{setSize}
+use Rattle.plan.specs.Limits.{unitLimits}
 use Rattle.plan.proofs.Spans.{named-low}
 use Rattle.trace_sources.specs.Loops.{sourcesOf, other}
 use Rattle.trace_sources.proofs.Stored.{changed-as}
@@ -19,7 +19,7 @@ empty-requires c κs = search needs
 give-requires : tie.Need-give-requires
 give-requires c κs =
     let s = c .before .before .before .before .before in
-    (ap (someFrom setSize) (c .before .numbers .ensures) ∙ named-low (s .args .plan) (s .args .indices .now) (s .pre .0) (s .args .dst) (s .pre .1), s .pre .2)
+    (ap (someFrom (unitLimits .buffers)) (c .before .numbers .ensures) ∙ named-low (s .args .plan) (s .args .indices .now) (s .pre .0) (s .args .dst) (s .pre .1), s .pre .2)
 
 same-length : tie.Need-same-length
 same-length c = search needs

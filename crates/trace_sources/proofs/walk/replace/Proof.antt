@@ -2,7 +2,7 @@
 use mathlib.Core.Path.{ap, _∙_}
 use borrow.Author.Needs.{needs}
 use Rattle.lists.specs.Entries.{someFrom}
-use Rattle.sets.specs.Sets.{setSize}
+use Rattle.plan.specs.Limits.{unitLimits}
 use Rattle.plan.specs.Check.{named}
 use Rattle.plan.proofs.Spans.{named-low}
 use Rattle.trace.specs.Sources.{union}
@@ -20,7 +20,7 @@ numbers-requires c κs = search needs
 give-requires : tie.Need-give-requires
 give-requires c κs =
     let s = c .before .before .before .before .before .before in
-    (ap (someFrom setSize) (c .numbers .ensures) ∙ named-low (s .args .plan) (s .args .indices .now) (s .pre .list) (s .args .dst) (s .pre .targets), s .pre .room)
+    (ap (someFrom (unitLimits .buffers)) (c .numbers .ensures) ∙ named-low (s .args .plan) (s .args .indices .now) (s .pre .list) (s .args .dst) (s .pre .targets), s .pre .room)
 
 same-length : tie.Need-same-length
 same-length c = search needs

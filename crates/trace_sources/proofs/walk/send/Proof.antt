@@ -3,7 +3,7 @@ use mathlib.Core.Path.{ap, _∙_}
 use mathlib.Core.Bool.{Bool, _||_}
 use borrow.Author.Needs.{needs}
 use Rattle.lists.specs.Entries.{someFrom}
-use Rattle.sets.specs.Sets.{setSize}
+use Rattle.plan.specs.Limits.{unitLimits}
 use Rattle.plan.specs.Check.{named}
 use Rattle.plan.proofs.Spans.{named-low}
 use Rattle.trace.specs.Sources.{union}
@@ -21,7 +21,7 @@ numbers-requires c κs = search needs
 add-requires : tie.Need-add-requires
 add-requires c κs =
     let s = c .before .before .before .before .before .before in
-    (ap (someFrom setSize) (c .numbers .ensures) ∙ named-low (s .args .plan) (s .args .indices .now) (s .pre .list) (s .args .dst) (s .pre .targets), s .pre .room)
+    (ap (someFrom (unitLimits .buffers)) (c .numbers .ensures) ∙ named-low (s .args .plan) (s .args .indices .now) (s .pre .list) (s .args .dst) (s .pre .targets), s .pre .room)
 
 same-length : tie.Need-same-length
 same-length c = search needs
