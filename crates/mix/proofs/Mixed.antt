@@ -15,9 +15,10 @@ use borrow.Rule.Slice.PartMut.{midOf}
 use Rattle.lists.proofs.Stores.{getD-sets}
 use Rattle.node.specs.declared.Gain.{Gain}
 use Rattle.node.specs.declared.Gain.the-variants.{Rest, Moving}
+use Rattle.node.specs.Nodes.{ramping}
 use Rattle.mix.specs.Samples.{sample, sampled, put}
 use Rattle.mix.specs.Mix.{Pair}
-use Rattle.mix.specs.Loops.{wholePiece, ramping, mixedInto, mixedAt}
+use Rattle.mix.specs.Loops.{wholePiece, mixedInto, mixedAt}
 use Rattle.mix.proofs.Stored.{length-sampled, turn, run-more, stored-at, sampled-same, none-stored}
 use Rattle.mix.proofs.Put.{begun-other, begun-same}
 

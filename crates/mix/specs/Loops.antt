@@ -1,13 +1,10 @@
 -- What the contracts of the loops over pieces of a buffer cite. Definitions only.
 use Prim.Native.Nat.{ℕ, suc, _+_, _≤_}
-use mathlib.Core.Bool.{Bool, false}
 use mathlib.Core.List.{List, [], _∷_}
-use lib.Dec.{leb}
 use lib.ListN.{length, getD}
 use lib.Seq.{sets}
 use lib.Ieee.{Float, nan, binary32, add, mul}
 use Rattle.node.specs.declared.Gain.{Gain}
-use Rattle.node.specs.declared.Gain.the-variants.{Rest, Moving}
 use Rattle.node.specs.Sizes.{maxRamp}
 use Rattle.node.specs.Nodes.{factor}
 use Rattle.mix.specs.Samples.{sample, sampled}
@@ -16,11 +13,6 @@ use Rattle.mix.specs.Mix.{added}
 -- the samples of a whole piece
 abbrev pub wholePiece : ℕ
 wholePiece = 16
-
--- the samples before n are all on the ramp of a gain that moves
-unfoldable pub ramping : Gain → ℕ → Bool
-ramping (Rest t) n = false
-ramping (Moving cur step t left) n = leb n left
 
 -- ---- one sample, with nothing skipped
 

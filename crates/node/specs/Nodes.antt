@@ -1,9 +1,9 @@
 -- What a node is after each call, and what one of its gains is at a sample, by document 01's section "Node". Definitions only.
 use Prim.Native.Nat.{ℕ, zero, suc, _+_, _-_, min}
 use mathlib.Core.Path.{_≡_}
-use mathlib.Core.Bool.{cond}
+use mathlib.Core.Bool.{Bool, false, cond}
 use mathlib.Core.List.{List}
-use lib.Dec.{eqb, ltb}
+use lib.Dec.{leb, eqb, ltb}
 use lib.IntN.{pos}
 use lib.ListN.{length, getD, replicate}
 use lib.Ieee.{Float, nan, binary32, add, sub, mul, div, ofInt, ofBits}
@@ -89,6 +89,11 @@ gainOf n i = gainAt (n .cur) (n .step) (n .target) (n .left) i
 unfoldable pub factor : Gain → ℕ → Float
 factor (Rest target) k = target
 factor (Moving cur step target left) k = cond (ltb k left) (onRamp cur step (k + 1)) target
+
+-- the samples before n are all on the ramp of a gain that moves
+unfoldable pub ramping : Gain → ℕ → Bool
+ramping (Rest target) n = false
+ramping (Moving cur step target left) n = leb n left
 
 -- ---- the end of a step's block
 

@@ -2,9 +2,10 @@
 // All of it is for the crates above and not the interface: a function that has a `requires` says in its comment what it takes.
 use lists::smaller;
 ghost use mathlib.Core.Path.{_≡_};
-ghost use Prim.Native.Nat.{_+_, _*_, _<_, _≤_};
+ghost use mathlib.Core.Bool.{true, cond};
+ghost use Prim.Native.Nat.{_+_, _<_, _≤_};
 ghost use Rattle.node.specs.Sizes.{maxValues, maxRamp};
-ghost use Rattle.node.specs.Nodes.{withTarget, atTarget, startRamp, newNode, setNode, finishBlock, gainFrom, gainOf, factor};
+ghost use Rattle.node.specs.Nodes.{withTarget, atTarget, startRamp, newNode, setNode, finishBlock, gainFrom, gainOf, ramping, factor};
 
 pub struct Node {
     pub id: u32,
@@ -22,6 +23,13 @@ pub struct Node {
 pub enum Gain {
     Rest(f32),
     Moving(f32, f32, f32, u32),
+}
+
+// One of two values. Both are worked out before, so that LLVM makes a select of it and the sample loops stay without a branch.
+fn either(first: bool, x: f32, y: f32) -> f32
+    ensures { λ r. ⌜ r ≡ cond first x y ⌝ }
+{
+    if first { x } else { y }
 }
 
 impl Node {
@@ -138,19 +146,32 @@ impl Gain {
         Gain::Moving(cur, step, target, left)
     }
 
-    // The gain at sample k of the coming block. Requires a k below the longest ramp, so that an f32 holds k + 1.
-    pub fn factor(self, k: usize) -> f32
-        requires { ⌜ k < maxRamp ⌝ }
+    // The samples before n are all on its ramp.
+    pub fn on_ramp(self, n: usize) -> bool
+        ensures { λ r. ⌜ r ≡ ramping self n ⌝ }
+    {
+        match self {
+            Gain::Rest(_) => false,
+            Gain::Moving(_, _, _, left) => n <= left as usize,
+        }
+    }
+
+    // The gain at sample k of the coming block; `whole` says that k and what the caller asks for with it are all on the ramp, and then no sample asks
+    // whether it is. A cast from i32 is fast. Requires a k below the longest ramp, so that an f32 holds k + 1, and one that is on the ramp where that is
+    // said.
+    pub fn factor(self, k: u32, whole: bool) -> f32
+        requires { ⌜ (k < maxRamp) × (whole ≡ true → ramping self (k + 1) ≡ true) ⌝ }
         ensures { λ r. ⌜ r ≡ factor self k ⌝ }
     {
         match self {
             Gain::Rest(target) => target,
             Gain::Moving(cur, step, target, left) => {
-                if k < left as usize {
-                    cur + step * (k + 1) as f32
-                } else {
-                    target
+                let i = (k + 1) as i32;
+                let v = cur + step * (i as f32);
+                if whole {
+                    return v;
                 }
+                either(k < left, v, target)
             }
         }
     }

@@ -38,14 +38,14 @@ mul-y-2 c = search needs
 shared-slice-read-y : tie.Need-shared-slice-read-y Inv-loop μ-loop
 shared-slice-read-y c = search needs
 
-add-at : tie.Need-add-at Inv-loop μ-loop
-add-at c = search needs
+add-factor : tie.Need-add-factor Inv-loop μ-loop
+add-factor c = search needs
 
-cast-at : tie.Need-cast-at Inv-loop μ-loop
-cast-at c = search needs
+cast-factor : tie.Need-cast-factor Inv-loop μ-loop
+cast-factor c = search needs
 
-at-requires : tie.Need-at-requires Inv-loop μ-loop
-at-requires c κs =
+factor-requires : tie.Need-factor-requires Inv-loop μ-loop
+factor-requires c κs =
     let l = c .before .before .before in
     let s = l .before .before .before in
     let n = s .args .k + length (s .args .x .now) in
@@ -67,7 +67,7 @@ loop-again : tie.Need-loop-again Inv-loop μ-loop
 loop-again c =
     let a = c .before .before .before .before .before .before .before .args in
     let l = c .before .before .before .before .loop in
-    (search needs, simp length-set (l .inv .1), rw (c .at .ensures) (mixed-turn (plusWeighted (a .w) (a .g)) (a .k) (a .x .now) (a .y .now) (l .i) (l .inv .2)))
+    (search needs, simp length-set (l .inv .1), rw (c .factor .ensures) (mixed-turn (plusWeighted (a .w) (a .g)) (a .k) (a .x .now) (a .y .now) (l .i) (l .inv .2)))
 
 returns : tie.Need-returns Inv-loop μ-loop
 returns c =
@@ -87,9 +87,9 @@ weigh-samples-spec =
     element-copy-out-y
     mul-y-2
     shared-slice-read-y
-    add-at
-    cast-at
-    at-requires
+    add-factor
+    cast-factor
+    factor-requires
     mul-y-3
     element-write-y
     add-i
