@@ -17,6 +17,8 @@ use Rattle.builder.specs.declared.NumberAnswer.{NumberAnswer}
 use Rattle.builder.specs.declared.NumberAnswer.the-variants as numbers
 use Rattle.trace.specs.declared.Sources.{Sources}
 use Rattle.trace.specs.declared.Sources.the-variants as sources
+use Rattle.trace.specs.declared.AllSources.{AllSources}
+use Rattle.trace.specs.declared.AllSources.the-variants as every
 use Rattle.trace.specs.declared.CleanAnswer.{CleanAnswer}
 use Rattle.trace.specs.declared.CleanAnswer.the-variants as cleans
 use Rattle.run.specs.declared.Ran.{Ran}
@@ -73,6 +75,10 @@ ranReply (runs.Refused r) = notCounted r
 abbrev pub sourcesReply : Sources → CountReply
 sourcesReply (sources.Listed n) = counted n
 sourcesReply (sources.Refused r) = notCounted r
+
+abbrev pub allReply : AllSources → CountReply
+allReply (every.Slots n) = counted n
+allReply (every.Refused r) = notCounted r
 
 abbrev pub cleanReply : CleanAnswer → CleanReply
 cleanReply cleans.Clean = record { status = accepted; clean = true }

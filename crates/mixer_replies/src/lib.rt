@@ -9,10 +9,11 @@ use plan::Span;
 use refusal::Answer;
 use refusal::Refusal;
 use run::Ran;
+use trace::AllSources;
 use trace::CleanAnswer;
 use trace::Sources;
 ghost use mathlib.Core.Path.{_≡_};
-ghost use Rattle.mixer_replies.specs.Replies.{accepted, refused, statusOf, planReply, spanReply, nodeReply, bufferReply, counted, notCounted, ranReply, sourcesReply, cleanReply, gainsReply, stereoReply};
+ghost use Rattle.mixer_replies.specs.Replies.{accepted, refused, statusOf, planReply, spanReply, nodeReply, bufferReply, counted, notCounted, ranReply, sourcesReply, allReply, cleanReply, gainsReply, stereoReply};
 
 // 0 and 0 where the call was accepted, else the refusal's number and place.
 #[repr(C)]
@@ -195,6 +196,15 @@ pub fn sources_reply(answer: Sources) -> CountReply
     match answer {
         Sources::Listed(n) => counted(n as usize),
         Sources::Refused(r) => not_counted(r),
+    }
+}
+
+pub fn all_reply(answer: AllSources) -> CountReply
+    ensures { λ r. ⌜ r ≡ allReply answer ⌝ }
+{
+    match answer {
+        AllSources::Slots(n) => counted(n as usize),
+        AllSources::Refused(r) => not_counted(r),
     }
 }
 

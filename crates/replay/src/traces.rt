@@ -6,15 +6,25 @@ use crate::data::area;
 use crate::data::shorts_in;
 use crate::data::word;
 use crate::data::words_in;
+use trace::AllSources;
 use trace::CleanAnswer;
 use trace::Sources;
 
-// The answer of a trace; its count is word i of the record.
+// The answer of a trace of one slot; its count is word i of the record.
 fn listed(record: &[u32], i: u8, answer: Sources) -> bool {
     match answer {
         Sources::Listed(n) => compare::accepted(record)
             && compare::number(b"count", word(record, i as usize), n),
         Sources::Refused(r) => compare::refused(record, r),
+    }
+}
+
+// The answer of a trace of all slots, likewise.
+fn slots(record: &[u32], i: u8, answer: AllSources) -> bool {
+    match answer {
+        AllSources::Slots(n) => compare::accepted(record)
+            && compare::number(b"count", word(record, i as usize), n),
+        AllSources::Refused(r) => compare::refused(record, r),
     }
 }
 
@@ -52,7 +62,7 @@ fn all(words: &[u32], record: &[u32], counts: &mut [u32], lists: &mut [u16]) -> 
     let node_words = area(words, record, 2);
     let steps = area(words, record, 3);
     let answer = trace_calls::all_sources(plan, indices, node_words, steps, counts, lists);
-    listed(record, 21, answer)
+    slots(record, 21, answer)
         && compare::words_left(b"counts", words, record, 6, counts)
         && compare::shorts_left(b"source lists", words, record, 7, lists)
 }

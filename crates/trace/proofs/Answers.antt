@@ -30,6 +30,7 @@ use Rattle.trace.specs.Sources.{noSources, behind, sourceList, slotCount
 use Rattle.trace.specs.Clean.{clean}
 use Rattle.trace.specs.Calls.{tracedSteps, traceAnswer, sourcesAnswer, sourcesArea, allTraced, allAnswer, countsOf, listsOf, allCounts, allLists, cleanAnswer}
 use Rattle.trace.specs.declared.Sources.the-variants as sources
+use Rattle.trace.specs.declared.AllSources.the-variants as every
 use Rattle.trace.specs.declared.CleanAnswer.the-variants as answers
 use Rattle.trace.proofs.Lists.{lists-at, lists-kept}
 
@@ -136,7 +137,7 @@ module _ (p : Plan) (indices words steps counts lists : List ℕ) where
   unfolding sourceList
   list-fits s = length-sift (behind s noSources (tracedSteps p indices steps)) 0 inputs
 
-  pub all-says : (n : ℕ) → allAnswer p indices words steps (length counts) (length lists) ≡ sources.Listed n → AllListed p indices words steps counts lists n
+  pub all-says : (n : ℕ) → allAnswer p indices words steps (length counts) (length lists) ≡ every.Slots n → AllListed p indices words steps counts lists n
   unfolding allAnswer allCounts allLists checked
   all-says n e = go all refl e
     where
@@ -157,23 +158,23 @@ module _ (p : Plan) (indices words steps counts lists : List ℕ) where
             other-places = λ i h. ap (λ (m : List ℕ). getD m i 0) l ∙ lists-kept lists-of slots lists i (λ s k. h s (omega (arith, k, q)));
           }
 
-      go : (a : Answer) → all ≡ a → outcome a (sources.Listed slots) sources.Refused ≡ sources.Listed n → AllListed p indices words steps counts lists n
+      go : (a : Answer) → all ≡ a → outcome a (every.Slots slots) every.Refused ≡ every.Slots n → AllListed p indices words steps counts lists n
       go Accepted a q = says a (cc)
       go (Refused r) a q = let z : _≡_ {A = ℕ} 0 1 = cc in absurd (omega arith)
 
-  pub refused-keeps-both : (r : Refusal) → allAnswer p indices words steps (length counts) (length lists) ≡ sources.Refused r
+  pub refused-keeps-both : (r : Refusal) → allAnswer p indices words steps (length counts) (length lists) ≡ every.Refused r
       → (allCounts p indices words steps counts (length lists) ≡ counts) × (allLists p indices words steps (length counts) lists ≡ lists)
   unfolding allAnswer allCounts allLists
   refused-keeps-both r e = go all refl e
     where
-      go : (a : Answer) → all ≡ a → outcome a (sources.Listed slots) sources.Refused ≡ sources.Refused r
+      go : (a : Answer) → all ≡ a → outcome a (every.Slots slots) every.Refused ≡ every.Refused r
           → (outcome all (countsOf lists-of slots counts) (λ _. counts) ≡ counts) × (outcome all (listsOf lists-of slots lists) (λ _. lists) ≡ lists)
       go Accepted a q = let z : _≡_ {A = ℕ} 0 1 = cc in absurd (omega arith)
       go (Refused s) a q = (refused-keeps all (countsOf lists-of slots counts) counts s a, refused-keeps all (listsOf lists-of slots lists) lists s a)
 
   -- what `output_sources` hands out for a slot is what `all_sources` has at its places
   pub all-agrees : (slot : ℕ) (area : List ℕ) (k n : ℕ) → sourcesAnswer p slot indices words steps (length area) ≡ sources.Listed k
-      → allAnswer p indices words steps (length counts) (length lists) ≡ sources.Listed n
+      → allAnswer p indices words steps (length counts) (length lists) ≡ every.Slots n
       → (getD (allCounts p indices words steps counts (length lists)) slot 0 ≡ k)
       × (part (slot * inputs) k (allLists p indices words steps (length counts) lists) ≡ take k (sourcesArea p slot indices words steps area))
   all-agrees slot area k n e f =

@@ -17,6 +17,8 @@ use Rattle.trace.specs.Clean.{written, all, cleanStep, cleanFrom, clean}
 use Rattle.trace.specs.Calls.{tracedSteps, traceAnswer, sourcesAnswer, sourcesArea, allTraced, allAnswer, allCounts, allLists, cleanAnswer}
 use Rattle.trace.specs.declared.Sources.{Sources}
 use Rattle.trace.specs.declared.Sources.the-variants.{Listed, Refused}
+use Rattle.trace.specs.declared.AllSources.{AllSources}
+use Rattle.trace.specs.declared.AllSources.the-variants as every
 use Rattle.trace.specs.declared.CleanAnswer.the-variants.{Clean, NotClean}
 use Rattle.trace.proofs.Behind.{traced-coefficients}
 
@@ -64,17 +66,17 @@ unfolding sourcesAnswer sourcesArea traceAnswer someFrom idAmong idTwice stepsTe
 case-8-slot-3 = (refl, refl)
 
 -- the three at once: how many inputs each slot has, and the inputs of slot 2 from its 256 places on; all else stays 9
-abbrev all-at-once : ℕ → ℕ → Sources
+abbrev all-at-once : ℕ → ℕ → AllSources
 all-at-once m n = allAnswer plan indices (7 ∷ 1 ∷ 0 ∷ []) (steps 3) m n
 
-pub case-8-all : (all-at-once 4 768 ≡ Listed 3)
+pub case-8-all : (all-at-once 4 768 ≡ every.Slots 3)
     × (allCounts plan indices (7 ∷ 1 ∷ 0 ∷ []) (steps 3) (9 ∷ 9 ∷ 9 ∷ 9 ∷ []) 768 ≡ 0 ∷ 0 ∷ 1 ∷ 9 ∷ [])
     × (allLists plan indices (7 ∷ 1 ∷ 0 ∷ []) (steps 3) 4 (replicate 768 9) ≡ replicate 512 9 ++ 3 ∷ replicate 255 9)
 unfolding allAnswer allCounts allLists allTraced someFrom idAmong idTwice stepsTests readAt stepOf ones onesIn outside tooWide has meet shares decoded decodedFrom sift union spread joins behind sourceList slotCount
 case-8-all = (refl, refl, refl)
 
 -- one place less, for the counts or for the lists, is refused 2
-pub case-8-short : (all-at-once 2 768 ≡ Refused (refusal 2 0)) × (all-at-once 3 767 ≡ Refused (refusal 2 0))
+pub case-8-short : (all-at-once 2 768 ≡ every.Refused (refusal 2 0)) × (all-at-once 3 767 ≡ every.Refused (refusal 2 0))
 unfolding allAnswer allTraced someFrom idAmong idTwice stepsTests readAt stepOf ones onesIn outside tooWide has meet shares decoded decodedFrom sift union spread joins behind sourceList slotCount
 case-8-short = (refl, refl)
 

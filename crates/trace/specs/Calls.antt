@@ -20,6 +20,8 @@ use Rattle.trace.specs.Sources.{sourceList, slotCount}
 use Rattle.trace.specs.Clean.{clean}
 use Rattle.trace.specs.declared.Sources.{Sources}
 use Rattle.trace.specs.declared.Sources.the-variants as sources
+use Rattle.trace.specs.declared.AllSources.{AllSources}
+use Rattle.trace.specs.declared.AllSources.the-variants as every
 use Rattle.trace.specs.declared.CleanAnswer.{CleanAnswer}
 use Rattle.trace.specs.declared.CleanAnswer.the-variants as answers
 
@@ -66,10 +68,10 @@ unfolding slotCount
 allTraced p indices words steps m n = first (allTests p indices words steps m n) Accepted
 
 -- what it answers: the count of the slots, or the refusal
-unfoldable pub allAnswer : Plan → List ℕ → List ℕ → List ℕ → ℕ → ℕ → Sources
+unfoldable pub allAnswer : Plan → List ℕ → List ℕ → List ℕ → ℕ → ℕ → AllSources
 unfolding allTraced
 allAnswer p indices words steps m n =
-    outcome (allTraced p indices words steps m n) (sources.Listed (slotCount (tracedSteps p indices steps))) sources.Refused
+    outcome (allTraced p indices words steps m n) (every.Slots (slotCount (tracedSteps p indices steps))) every.Refused
 
 -- both areas once the first n slots are done, where slot s has the inputs `list s`: how many these are at place s, and the inputs from s * 256 on
 abbrev pub countsOf : (ℕ → List ℕ) → ℕ → List ℕ → List ℕ

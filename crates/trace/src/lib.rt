@@ -2,9 +2,15 @@
 // `trace_sources`, `trace_clean` and `trace_calls` have it.
 use refusal::Refusal;
 
-// The answer of `output_sources`: how many inputs are behind the slot. That of `all_sources`: how many slots there are.
+// The answer of `output_sources`: how many inputs are behind the slot.
 pub enum Sources {
     Listed(u32),
+    Refused(Refusal),
+}
+
+// The answer of `all_sources`: how many slots there are.
+pub enum AllSources {
+    Slots(u32),
     Refused(Refusal),
 }
 

@@ -32,6 +32,7 @@ use Rattle.trace.specs.Sources.{noSources, behind, sourceList, slotCount}
 use Rattle.trace.specs.Clean.{clean}
 use Rattle.trace.specs.Calls.{tracedSteps, traceAnswer, sourcesAnswer, sourcesArea, allTraced, allAnswer, countsOf, listsOf, allCounts, allLists, cleanAnswer}
 use Rattle.trace.specs.declared.Sources.the-variants as sources
+use Rattle.trace.specs.declared.AllSources.the-variants as every
 use Rattle.trace.specs.declared.CleanAnswer.the-variants as answers
 use Rattle.trace.proofs.Behind.{inside-slots}
 use Rattle.trace_sources.specs.Loops.{setAt, sourcesOf, listAt}
@@ -127,19 +128,19 @@ module _ (p : Plan) (indices words steps counts lists : List ℕ) where
       (ltb-false (length counts) n (t .0), ltb-false (length lists) (n * inputs) (t .1))
 
   pub all-refused : (r q : Refusal) → all ≡ Refused r → q ≡ r
-      → (sources.Refused q ≡ allAnswer p indices words steps (length counts) (length lists))
+      → (every.Refused q ≡ allAnswer p indices words steps (length counts) (length lists))
       × ((counts ≡ allCounts p indices words steps counts (length lists)) × (lists ≡ allLists p indices words steps (length counts) lists))
   unfolding allAnswer allCounts allLists
   all-refused r q e g =
-      (ap sources.Refused g ∙ sym (outcome-refused all _ sources.Refused r e), (sym (refused-keeps all _ counts r e), sym (refused-keeps all _ lists r e)))
+      (ap every.Refused g ∙ sym (outcome-refused all _ every.Refused r e), (sym (refused-keeps all _ counts r e), sym (refused-keeps all _ lists r e)))
 
   pub all-listed : (list : ℕ → List ℕ) → ((s : ℕ) → list s ≡ sourceList s (tracedSteps p indices steps)) → all ≡ Accepted
       → (n : ℕ) → n ≡ named → (counts′ lists′ : List ℕ) → counts′ ≡ countsOf list n counts → lists′ ≡ listsOf list n lists
-      → (sources.Listed n ≡ allAnswer p indices words steps (length counts) (length lists))
+      → (every.Slots n ≡ allAnswer p indices words steps (length counts) (length lists))
       × ((counts′ ≡ allCounts p indices words steps counts (length lists)) × (lists′ ≡ allLists p indices words steps (length counts) lists))
   unfolding allAnswer allCounts allLists
   all-listed list m e n k counts′ lists′ c l = (
-    ap sources.Listed k ∙ sym (outcome-accepted all _ sources.Refused e),
+    ap every.Slots k ∙ sym (outcome-accepted all _ every.Refused e),
     (
       c ∙ (λ t. countsOf (λ s. m s t) (k t) counts) ∙ sym (outcome-accepted all _ (λ _. counts) e),
       l ∙ (λ t. listsOf (λ s. m s t) (k t) lists) ∙ sym (outcome-accepted all _ (λ _. lists) e),

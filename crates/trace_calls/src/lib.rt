@@ -7,6 +7,7 @@ use refusal::Answer;
 use refusal::Refusal;
 use slots::LIST_PLACES;
 use slots::write_lists;
+use trace::AllSources;
 use trace::CleanAnswer;
 use trace::Sources;
 use trace_clean::all_clean;
@@ -56,22 +57,22 @@ pub fn all_sources(
     steps: &[u32],
     counts: &mut [u32],
     lists: &mut [u16],
-) -> Sources
+) -> AllSources
     ensures answer { λ r. ⌜ r ≡ allAnswer plan (now (indices .entry)) (now («node_words» .entry)) (now (steps .entry)) (length (now (counts .entry))) (length (now (lists .entry))) ⌝ }
     ensures counts { λ _. ⌜ now (counts .exit) ≡ allCounts plan (now (indices .entry)) (now («node_words» .entry)) (now (steps .entry)) (now (counts .entry)) (length (now (lists .entry))) ⌝ }
     ensures lists { λ _. ⌜ now (lists .exit) ≡ allLists plan (now (indices .entry)) (now («node_words» .entry)) (now (steps .entry)) (length (now (counts .entry))) (now (lists .entry)) ⌝ }
 {
     if let Answer::Refused(refused) = check_lists(plan, indices, node_words, steps) {
-        return Sources::Refused(refused);
+        return AllSources::Refused(refused);
     }
     let words = plan.words;
     let mut sets = [0u64; SLOT_WORDS];
     let n = behind(plan, indices, &steps[..words], &mut sets);
     if (counts.len() < n) | (lists.len() < n * LIST_PLACES) {
-        return Sources::Refused(Refusal::of(Refusal::SHORT_AREA));
+        return AllSources::Refused(Refusal::of(Refusal::SHORT_AREA));
     }
     write_lists(&sets, n, counts, lists);
-    Sources::Listed(n as u32)
+    AllSources::Slots(n as u32)
 }
 
 // Whether a plan is clean, as document 01 has it.
