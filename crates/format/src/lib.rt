@@ -53,7 +53,7 @@ const SURROUND_514: [u32; 10] = [L, R, C, LFE, LS, RS, LTF, RTF, LTR, RTR];
 
 const SURROUND_714: [u32; 12] = [L, R, C, LFE, LSS, RSS, LRS, RRS, LTF, RTF, LTR, RTR];
 
-const CHANNELS: [usize; 7] = [1, 2, 3, 6, 8, 10, 12];
+const CHANNELS: [usize; 7] = [1, 2, 3, 6, 8, 10, Format::MAX_CHANNELS];
 
 // A format by its number, in the order of the Rust's enum.
 pub struct Format {

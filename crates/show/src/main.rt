@@ -31,7 +31,8 @@ fn show(
         return Answer::Refused(r);
     }
     overview::run();
-    let mut digests = [signals::digest::START; layout::SLOTS];
+    let nothing = signals::digest::empty();
+    let mut digests = [nothing; layout::SLOTS];
     let answer = runs::blocks(
         plan,
         indices,

@@ -17,7 +17,7 @@ const AT: usize = 96_000;
 fn of_nodes(floats: &[f32], words: &[u32]) -> u32
     ensures { λ r. ⌜ r ≡ ofWords (ofSamples start (now (floats .entry))) (now (words .entry)) ⌝ }
 {
-    digest::of_words(digest::of_samples(digest::START, floats), words)
+    digest::of_words(digest::of_samples(digest::empty(), floats), words)
 }
 
 // A digest of all that a run may write.

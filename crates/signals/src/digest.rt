@@ -4,12 +4,18 @@ use comparison::floats;
 ghost use mathlib.Core.Path.{_≡_};
 ghost use Prim.Native.Nat.{_/_, _<_};
 ghost use lib.ListN.{length};
-ghost use Rattle.signals.specs.Digest.{withByte, withWord, withSample, ofWords, ofSamples, withFrame, withFrames};
+ghost use Rattle.signals.specs.Digest.{start, withByte, withWord, withSample, ofWords, ofSamples, withFrame, withFrames};
 
-// The digest of nothing.
-pub const START: u32 = 0x811c_9dc5;
+const START: u32 = 0x811c_9dc5;
 
 const PRIME: u64 = 0x0100_0193;
+
+// The digest of nothing.
+pub fn empty() -> u32
+    ensures { λ r. ⌜ r ≡ start ⌝ }
+{
+    START
+}
 
 fn wide(n: u32) -> u64
     ensures { λ r. ⌜ r ≡ n ⌝ }

@@ -3,6 +3,9 @@ use borrow.Author.Needs.{needs}
 use Rattle.show.proofs.refused.of_nodes.Statement.{statement}
 use Rattle.show.proofs.refused.of_nodes.Tie as tie
 
+empty-requires : tie.Need-empty-requires
+empty-requires c κs = search needs
+
 of-samples-requires : tie.Need-of-samples-requires
 of-samples-requires c κs = search needs
 
@@ -13,4 +16,4 @@ returns : tie.Need-returns
 returns c = cc
 
 pub of-nodes-spec : {M : Type 1} → statement M
-of-nodes-spec = tie.close (tie.spec of-samples-requires of-words-requires returns)
+of-nodes-spec = tie.close (tie.spec empty-requires of-samples-requires of-words-requires returns)
