@@ -131,7 +131,11 @@ impl Node {
         requires { ⌜ i < maxValues ⌝ }
         ensures { λ r. ⌜ r ≡ gainOf self i ⌝ }
     {
-        Gain::of(self.cur[i], self.step[i], self.target[i], self.left)
+        if self.left == 0 {
+            Gain::Rest(self.target[i])
+        } else {
+            Gain::Moving(self.cur[i], self.step[i], self.target[i], self.left)
+        }
     }
 }
 

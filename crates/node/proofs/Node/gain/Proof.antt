@@ -1,43 +1,53 @@
--- `node::Node::gain` meets its contract: by that of `Gain::of`. Assumes nothing.
+-- `node::Node::gain` meets its contract: by the test on left. Assumes nothing.
+use borrow.Author.Tests.{eq-eqb, ne-eqb}
 use borrow.Author.Needs.{needs}
 use Rattle.node.specs.Nodes.{gainOf}
 use Rattle.node.proofs.Node.gain.Statement.{statement}
 use Rattle.node.proofs.Node.gain.Tie as tie
 
-mul-of : tie.Need-mul-of
-mul-of c = search needs
+mul-t7 : tie.Need-mul-t7
+mul-t7 c = search needs
 
-element-copy-out-of : tie.Need-element-copy-out-of
-element-copy-out-of c = search needs
+element-copy-out-t10 : tie.Need-element-copy-out-t10
+element-copy-out-t10 c = search needs
 
-mul-of-2 : tie.Need-mul-of-2
-mul-of-2 c = search needs
+mul-t11 : tie.Need-mul-t11
+mul-t11 c = search needs
 
-element-copy-out-of-2 : tie.Need-element-copy-out-of-2
-element-copy-out-of-2 c = search needs
+element-copy-out-t14 : tie.Need-element-copy-out-t14
+element-copy-out-t14 c = search needs
 
-mul-of-3 : tie.Need-mul-of-3
-mul-of-3 c = search needs
+mul-t15 : tie.Need-mul-t15
+mul-t15 c = search needs
 
-element-copy-out-of-3 : tie.Need-element-copy-out-of-3
-element-copy-out-of-3 c = search needs
+element-copy-out-t18 : tie.Need-element-copy-out-t18
+element-copy-out-t18 c = search needs
 
-of-requires : tie.Need-of-requires
-of-requires c κs = search needs
+mul-t19 : tie.Need-mul-t19
+mul-t19 c = search needs
+
+element-copy-out-t22 : tie.Need-element-copy-out-t22
+element-copy-out-t22 c = search needs
 
 returns : tie.Need-returns
 unfolding gainOf
-returns c = c .of .ensures
+returns c = simp (eq-eqb _ _ (c .before .if1 .taken))
+
+returns-2 : tie.Need-returns-2
+unfolding gainOf
+returns-2 c = simp (ne-eqb _ _ (c .before .before .before .if1 .left))
 
 pub gain-spec : {M : Type 1} → statement M
 gain-spec =
     tie.close
     (tie.spec
-    mul-of
-    element-copy-out-of
-    mul-of-2
-    element-copy-out-of-2
-    mul-of-3
-    element-copy-out-of-3
-    of-requires
-    returns)
+    mul-t7
+    element-copy-out-t10
+    mul-t11
+    element-copy-out-t14
+    mul-t15
+    element-copy-out-t18
+    mul-t19
+    element-copy-out-t22
+    returns
+    returns-2)
