@@ -1,6 +1,7 @@
 -- What is taken for granted of lists of buffers, handed on to one row and to one pair of them; it goes by the area's length alone.
 -- Assumes nothing.
-use mathlib.Core.Path.{_≡_, sym, _∙_}
+use mathlib.Core.Path.{_≡_, refl, sym, _∙_}
+use mathlib.Core.Bool.{Bool, true, false, not, _&&_, false≢true}
 use mathlib.Core.List.{List}
 use Prim.Native.Nat.{ℕ, suc, _+_, _*_, _<_, _≤_, min}
 use native.Mathlib.Nat.{mul-le-mul-right, suc-mul}
@@ -50,3 +51,13 @@ channel-of src dst e r c h =
       target = let q = (rw ed at (r .targets c hd)) in omega arith;
       apart = λ w. r .apart c hs c hd (es ∙ w ∙ sym ed);
     }
+
+-- two tests, neither of which is met
+pub first-not : (a b : Bool) → not a && not b ≡ true → a ≡ false
+first-not true b e = absurd (false≢true e)
+first-not false b e = refl
+
+pub second-not : (a b : Bool) → not a && not b ≡ true → b ≡ false
+second-not true b e = absurd (false≢true e)
+second-not false true e = absurd (false≢true e)
+second-not false false e = refl

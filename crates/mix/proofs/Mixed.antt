@@ -7,7 +7,7 @@ use mathlib.Core.Logic.{inr}
 use Prim.Native.Nat.{ℕ, _+_, _-_, _*_, _≤_, _<_}
 use native.Mathlib.Nat.{zero-add, add-assoc}
 use native.Mathlib.Omega.{arith}
-use lib.ListN.{length, getD, drop, set, length-take, length-drop}
+use lib.ListN.{length, getD, drop, set, replicate, length-take, length-drop, length-replicate, getD-replicate}
 use lib.Seq.{sets, length-sets, getD-take, getD-drop}
 use lib.Ieee.{Float, nan}
 use borrow.Author.Tests.{le-leb, leb-true}
@@ -16,9 +16,9 @@ use Rattle.lists.proofs.Stores.{getD-sets}
 use Rattle.node.specs.declared.Gain.{Gain}
 use Rattle.node.specs.declared.Gain.the-variants.{Rest, Moving}
 use Rattle.node.specs.Nodes.{ramping}
-use Rattle.mix.specs.Samples.{sample, sampled, put}
+use Rattle.mix.specs.Samples.{silence, sample, sampled, put}
 use Rattle.mix.specs.Mix.{Pair}
-use Rattle.mix.specs.Loops.{wholePiece, mixedInto, mixedAt}
+use Rattle.mix.specs.Loops.{wholePiece, mixedInto, mixedAt, twoAt}
 use Rattle.mix.proofs.Stored.{length-sampled, turn, run-more, stored-at, sampled-same, none-stored}
 use Rattle.mix.proofs.Put.{begun-other, begun-same}
 
@@ -85,6 +85,52 @@ piece-mixed f h from to m k a t₀ {t₁} {t₂} hf ht h₀ same e₁ e₂ e₃ 
     samples-stored (λ i. f (k + i) (getD a (from + i) nan) (getD a (to + i) nan)) a to m e₃
     (λ i l. part-mixed f h k from m a t₁ hf (omega arith) same e₂ i l
     ∙ ap (λ (v : Float). f (k + i) (getD a (from + i) nan) v) (part-mixed (λ k x y. x) (λ k x y. x) 0 to m a t₀ ht h₀ (λ i l x y. refl) e₁ i l))
+
+-- a piece of two sources, one mixed into the local after the other, by functions that are f and q from sample k on
+pub piece-two : (f q f' q' : ℕ → Float → Float → Float) (from other to m k : ℕ) (a t₀ : List Float) {t₁ t₂ t₃ b : List Float}
+    → from + m ≤ length a → other + m ≤ length a → to + m ≤ length a → m ≤ length t₀
+    → ((i : ℕ) → k ≤ i → (x y : Float) → f' i x y ≡ f i x y) → ((i : ℕ) → k ≤ i → (x y : Float) → q' i x y ≡ q i x y)
+    → t₁ ≡ mixedInto (λ k x y. x) 0 (length (midOf to (to + m - to) a)) (midOf to (to + m - to) a) t₀
+    → t₂ ≡ mixedInto f' k (length (midOf from (from + m - from) a)) (midOf from (from + m - from) a) t₁
+    → t₃ ≡ mixedInto q' k (length (midOf other (other + m - other) a)) (midOf other (other + m - other) a) t₂
+    → b ≡ sets a to (sampled m (λ i. getD t₃ i nan)) → b ≡ twoAt f q from other to m k a
+piece-two f q f' q' from other to m k a t₀ {t₁} {t₂} {t₃} hf hz ht h₀ same-f same-q e₁ e₂ e₃ e₄ =
+    let n₁ : length t₁ ≡ length t₀ = ap length e₁ ∙ length-mixed (λ k x y. x) 0 (midOf to (to + m - to) a) t₀ (length (midOf to (to + m - to) a)) in
+    let n₂ : length t₂ ≡ length t₁ = ap length e₂ ∙ length-mixed f' k (midOf from (from + m - from) a) t₁ (length (midOf from (from + m - from) a)) in
+    samples-stored (λ i. q (k + i) (getD a (other + i) nan) (f (k + i) (getD a (from + i) nan) (getD a (to + i) nan))) a to m e₄
+    (λ i l. part-mixed q q' k other m a t₂ hz (omega arith) same-q e₃ i l
+    ∙ ap (λ (v : Float). q (k + i) (getD a (other + i) nan) v)
+    (part-mixed f f' k from m a t₁ hf (omega arith) same-f e₂ i l
+    ∙ ap (λ (v : Float). f (k + i) (getD a (from + i) nan) v) (part-mixed (λ k x y. x) (λ k x y. x) 0 to m a t₀ ht h₀ (λ i l x y. refl) e₁ i l)))
+
+-- a piece of two sources, from a new local on
+pub piece-new : (f q : ℕ → Float → Float → Float) (from other to m k : ℕ) (a : List Float) {t₁ t₂ b : List Float}
+    → from + m ≤ length a → other + m ≤ length a → m ≤ wholePiece
+    → t₁ ≡ mixedInto f k (length (midOf from (from + m - from) a)) (midOf from (from + m - from) a) (replicate wholePiece silence)
+    → t₂ ≡ mixedInto q k (length (midOf other (other + m - other) a)) (midOf other (other + m - other) a) t₁
+    → b ≡ sets a to (sampled m (λ i. getD t₂ i nan)) → b ≡ twoAt (λ k x y. f k x silence) q from other to m k a
+piece-new f q from other to m k a {t₁} {t₂} hf hz h₀ e₁ e₂ e₃ =
+    let t₀ : List Float = replicate wholePiece silence in
+    let n₀ : length t₀ ≡ wholePiece = length-replicate wholePiece silence in
+    let n₁ : length t₁ ≡ length t₀ = ap length e₁ ∙ length-mixed f k (midOf from (from + m - from) a) t₀ (length (midOf from (from + m - from) a)) in
+    samples-stored (λ i. q (k + i) (getD a (other + i) nan) (f (k + i) (getD a (from + i) nan) silence)) a to m e₃
+    (λ i l. part-mixed q q k other m a t₁ hz (omega arith) (λ i l x y. refl) e₂ i l
+    ∙ ap (λ (v : Float). q (k + i) (getD a (other + i) nan) v)
+    (part-mixed f f k from m a t₀ hf (omega arith) (λ i l x y. refl) e₁ i l
+    ∙ ap (λ (v : Float). f (k + i) (getD a (from + i) nan) v) (getD-replicate wholePiece i silence nan (omega arith))))
+
+-- a piece of two sources, after those before it, is one of the first source, by a function that has the samples of the second
+pub two-piece : (p q : ℕ → Float → Float → Float) (block s z d : ℕ) (a : List Float) → (z ≡ d → ⊥) → (n m : ℕ) {b c : List Float} → n + m ≤ block
+    → b ≡ sets a (d * block) (sampled n (λ k. q k (sample block a z k) (p k (sample block a s k) (sample block a d k))))
+    → c ≡ twoAt p q (s * block + n) (z * block + n) (d * block + n) m n b
+    → c ≡ mixedAt (λ k x y. q k (sample block a z k) (p k x y)) (s * block + n) (d * block + n) m n b
+two-piece p q block s z d a o n m {b} h e g =
+    let F : ℕ → Float = λ k. q k (sample block a z k) (p k (sample block a s k) (sample block a d k)) in
+    samples-stored (λ i. q (n + i) (sample block a z (n + i)) (p (n + i) (getD b (s * block + n + i) nan) (getD b (d * block + n + i) nan))) b (d * block + n) m g
+    (λ i l. ap (λ (v : Float). q (n + i) v (p (n + i) (getD b (s * block + n + i) nan) (getD b (d * block + n + i) nan)))
+    (ap (λ (j : ℕ). getD b j nan) (add-assoc (z * block) n i)
+    ∙ ap (λ (w : List Float). sample block w z (n + i)) e
+    ∙ begun-other block d n F a z (n + i) o (omega arith) (omega arith)))
 
 -- ---- the pieces of a buffer
 module _ (f : ℕ → Float → Float → Float) (block s d : ℕ) (a : List Float) (pair : Pair block s d a) where

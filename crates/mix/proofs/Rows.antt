@@ -48,6 +48,29 @@ module _ (block : ℕ) (gain : ℕ → Gain) where
       ap (λ (z : List Float). columns block gain (suc v) src d z) e
       ∙ columns-put (suc v) src d G area h (λ i l. o (suc i) (omega arith))
 
+  -- two columns
+  row-of-two : (v : ℕ) (src : List ℕ) (a : List Float) (k : ℕ) (y : Float) → length src ≡ 2
+      → added (gain (suc v)) k (sample block a (getD src 1 0) k) (added (gain v) k (sample block a (getD src 0 0) k) y) ≡ rowSample block gain v src a k y
+  unfolding rowSample
+  row-of-two v [] a k y n = absurd (omega arith)
+  row-of-two v (s ∷ []) a k y n = absurd (omega arith)
+  row-of-two v (s ∷ z ∷ []) a k y n = refl
+  row-of-two v (s ∷ z ∷ x ∷ src) a k y n = absurd (omega arith)
+
+  pub two-summed : (v : ℕ) (src : List ℕ) (d : ℕ) (a : List Float) {b : List Float} (g h : Gain) → length src ≡ 2 → Row block src d a
+      → g ≡ gain v → h ≡ gain (suc v) → silent g ≡ false → silent h ≡ false
+      → b ≡ put block d (λ k. plusScaled h k (sample block a (getD src 1 0) k) (plusScaled g k (sample block a (getD src 0 0) k) silence)) a
+      → b ≡ columns block gain v src d (clearBuffer block d a)
+  two-summed v src d a g h n row eg eh sg sh e =
+      e
+      ∙ put-same block d (λ k. plusScaled h k (sample block a (getD src 1 0) k) (plusScaled g k (sample block a (getD src 0 0) k) silence)) a (λ k. rowSample block gain v src a k silence)
+      (λ k l. is-added h k (sample block a (getD src 1 0) k) (plusScaled g k (sample block a (getD src 0 0) k) silence) sh
+      ∙ ap (λ (y : Float). added h k (sample block a (getD src 1 0) k) y) (is-added g k (sample block a (getD src 0 0) k) silence sg)
+      ∙ ap (λ (u : Gain). added u k (sample block a (getD src 1 0) k) (added g k (sample block a (getD src 0 0) k) silence)) eh
+      ∙ ap (λ (u : Gain). added (gain (suc v)) k (sample block a (getD src 1 0) k) (added u k (sample block a (getD src 0 0) k) silence)) eg
+      ∙ row-of-two v src a k silence n)
+      ∙ sym (columns-put v src d (λ k. silence) a (row .target) (row .apart))
+
   -- only the sources' samples count
   row-same : (v : ℕ) (src : List ℕ) (a b : List Float) (k : ℕ) (y : Float)
       → ((i : ℕ) → i < length src → sample block b (getD src i 0) k ≡ sample block a (getD src i 0) k)

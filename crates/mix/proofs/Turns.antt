@@ -14,9 +14,9 @@ use Rattle.node.specs.declared.Gain.{Gain}
 use Rattle.node.specs.declared.Gain.the-variants.{Rest, Moving}
 use Rattle.node.specs.Nodes.{factor}
 use Rattle.mix.specs.Samples.{sample, sampled, put}
-use Rattle.mix.specs.Mix.{isZero, silent, weighted, sent, scale, sendIn, clearBuffer, gained, columns, rows, weighs, sends, cleared, appended}
+use Rattle.mix.specs.Mix.{isZero, silent, weighted, sent, scale, sendIn, clearBuffer, gained, columns, rows, weighs, sends, cleared, appended, Inside}
 use Rattle.mix.specs.Loops.{plusScaled, plusWeighted}
-use Rattle.mix.proofs.Put.{put-same, put-unchanged}
+use Rattle.mix.proofs.Put.{put-sample, put-other, put-same, put-put, put-unchanged}
 
 -- ---- Gain
 module _ (block : ℕ) (gain : ℕ → Gain) (src dst : List ℕ) where
@@ -102,6 +102,42 @@ module _ (block : ℕ) (g : Gain) (w : Float) (s d : ℕ) (a : List Float) where
       (λ k. sent g w k (sample block a s k) (sample block a d k))
       (λ k l. rw (p, e))
 
+-- ---- two sources in one pass
+module _ (block s z d : ℕ) (f q : ℕ → Float → Float → Float) (a : List Float) where
+  -- one write of d after the other, where neither source is d
+  pub two-puts : (s ≡ d → ⊥) → (z ≡ d → ⊥) → Inside block d a
+      → put block d (λ k. q k (sample block a z k) (f k (sample block a s k) (sample block a d k))) a
+      ≡ put block d (λ k. q k (sample block (put block d (λ k. f k (sample block a s k) (sample block a d k)) a) z k) (sample block (put block d (λ k. f k (sample block a s k) (sample block a d k)) a) d k))
+      (put block d (λ k. f k (sample block a s k) (sample block a d k)) a)
+  two-puts os oz h =
+      let F : ℕ → Float = λ k. f k (sample block a s k) (sample block a d k) in
+      let b : List Float = put block d F a in
+      sym
+      (put-same block d (λ k. q k (sample block b z k) (sample block b d k)) b (λ k. q k (sample block a z k) (F k))
+      (λ k l. ap (λ (v : Float). q k v (sample block b d k)) (put-other block d F a z k oz l) ∙ ap (λ (v : Float). q k (sample block a z k) v) (put-sample block d F a k l h))
+      ∙ put-put block d F a (λ k. q k (sample block a z k) (F k)) h)
+
+module _ (block : ℕ) (g : Gain) (w x : Float) (s z d : ℕ) (a : List Float) where
+  pub two-at-rest : {t : Float} {b : List Float} → g ≡ Rest t → isZero w ≡ false → isZero x ≡ false → silent g ≡ false
+      → (s ≡ d → ⊥) → (z ≡ d → ⊥) → Inside block d a
+      → b ≡ put block d (λ k. plusScaled (Rest (mul binary32 x t)) k (sample block a z k) (plusScaled (Rest (mul binary32 w t)) k (sample block a s k) (sample block a d k))) a
+      → b ≡ sendIn block g x z d (sendIn block g w s d a)
+  two-at-rest {t} e hw hx q os oz h l =
+      let f : ℕ → Float → Float → Float = plusScaled (Rest (mul binary32 w t)) in
+      let c : List Float = put block d (λ k. f k (sample block a s k) (sample block a d k)) a in
+      sent-at-rest block g x z d c e hx q (l ∙ two-puts block s z d f (plusScaled (Rest (mul binary32 x t))) a os oz h)
+      ∙ ap (λ (u : List Float). sendIn block g x z d u) (sent-at-rest block g w s d a {b = c} e hw q refl)
+
+  pub two-ramping : {cur step t : Float} {left : ℕ} {b : List Float} → g ≡ Moving cur step t left → isZero w ≡ false → isZero x ≡ false
+      → (s ≡ d → ⊥) → (z ≡ d → ⊥) → Inside block d a
+      → b ≡ put block d (λ k. plusWeighted x (Moving cur step t left) k (sample block a z k) (plusWeighted w (Moving cur step t left) k (sample block a s k) (sample block a d k))) a
+      → b ≡ sendIn block g x z d (sendIn block g w s d a)
+  two-ramping {cur} {step} {t} {left} e hw hx os oz h l =
+      let f : ℕ → Float → Float → Float = plusWeighted w (Moving cur step t left) in
+      let c : List Float = put block d (λ k. f k (sample block a s k) (sample block a d k)) a in
+      sent-ramping block g x z d c e hx (l ∙ two-puts block s z d f (plusWeighted x (Moving cur step t left)) a os oz h)
+      ∙ ap (λ (u : List Float). sendIn block g x z d u) (sent-ramping block g w s d a {b = c} e hw refl)
+
 -- ---- its sources, and its rows
 module _ (block : ℕ) (g : Gain) (weights : List Float) (src : List ℕ) where
   pub no-source : (d v : ℕ) (a : List Float) → weighs block g weights (v + 0) src d a ≡ weighs block g weights v src d a
@@ -121,6 +157,16 @@ module _ (block : ℕ) (g : Gain) (weights : List Float) (src : List ℕ) where
       → weighs block g weights (v + c) (drop c src) d a ≡ whole → a ≡ whole
   unfolding weighs
   sources-sent d v c a h left = sym (ap (λ (l : List ℕ). weighs block g weights (v + c) l d a) (drop-of-length-le src {i = c} h)) ∙ left
+
+  -- two sources that are all
+  pub two-sent : (d v : ℕ) (a : List Float) {b : List Float} → length src ≡ 2
+      → b ≡ sendIn block g (getD weights (v + 1) nan) (getD src 1 0) d (sendIn block g (getD weights v nan) (getD src 0 0) d a)
+      → b ≡ weighs block g weights v src d a
+  two-sent d v a {b} n e =
+      let c : List Float = sendIn block g (getD weights v nan) (getD src 0 0) d a in
+      let first : weighs block g weights (v + 1) (drop 1 src) d c ≡ weighs block g weights v src d a =
+      source-sent d v 0 a {b = c} (omega arith) (no-source d v a) (ap (λ (i : ℕ). sendIn block g (getD weights i nan) (getD src 0 0) d a) (sym (add-zero v))) in
+      sources-sent d v 2 b (omega arith) (source-sent d v 1 c {b = b} (omega arith) first e)
 
   pub no-row-sent : (dst : List ℕ) (a : List Float) → sends block g weights (0 * length src) src dst a ≡ sends block g weights 0 src dst a
   no-row-sent dst a = rw zero-mul

@@ -37,6 +37,10 @@ mixedInto f k m x y = sets y 0 (sampled m (λ i. f (k + i) (getD x i nan) (getD 
 abbrev pub mixedAt : (ℕ → Float → Float → Float) → ℕ → ℕ → ℕ → ℕ → List Float → List Float
 mixedAt f from to m k area = sets area to (sampled m (λ i. f (k + i) (getD area (from + i) nan) (getD area (to + i) nan)))
 
+-- those of the area from `to` on, each from those of two sources, one after the other, and its own
+abbrev pub twoAt : (ℕ → Float → Float → Float) → (ℕ → Float → Float → Float) → ℕ → ℕ → ℕ → ℕ → ℕ → List Float → List Float
+twoAt f q from other to m k area = sets area to (sampled m (λ i. q (k + i) (getD area (other + i) nan) (f (k + i) (getD area (from + i) nan) (getD area (to + i) nan))))
+
 pub record Piece (from to m k : ℕ) (area : List Float) : Type 0 where
   pub source : from + m ≤ length area
   pub target : to + m ≤ length area

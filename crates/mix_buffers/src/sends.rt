@@ -1,13 +1,15 @@
 // Send.
 use mix_samples::add_into;
+use mix_samples::add_two;
 use mix_samples::is_silent;
 use mix_samples::weigh_into;
+use mix_samples::weigh_two;
 use node::Gain;
 ghost use mathlib.Core.Path.{_≡_};
 ghost use mathlib.Core.Bool.{false};
 ghost use Prim.Native.Nat.{_+_, _*_, _≤_};
 ghost use lib.ListN.{length};
-ghost use Rattle.mix.specs.Mix.{silent, sendIn, weighs, sends, Pair, Row, Buffers};
+ghost use Rattle.mix.specs.Mix.{isZero, silent, sendIn, weighs, sends, Pair, Row, Buffers};
 
 // Buffer s into buffer d by a weight; a weight of 0 is skipped. At rest the weight and the target are one factor, ramping they are two.
 // Requires as `scale_into`, and a gain that is not at rest at 0.
@@ -27,8 +29,23 @@ fn send_into(area: &mut [f32], block: usize, s: usize, d: usize, w: f32, g: Gain
     }
 }
 
-// One row: the sources into buffer d, by the weights from v on. Requires sources and d within the area, d none of them, a weight for each, a
-// block that is not too long, and a gain that is not at rest at 0.
+// Buffers s and z into buffer d in one pass, by two weights that are not 0. Requires as `send_into`, for both sources.
+fn send_two(area: &mut [f32], block: usize, s: usize, z: usize, d: usize, w: f32, x: f32, g: Gain)
+    requires { ⌜ Pair block s d (now area) ⌝ }
+    requires { ⌜ Pair block z d (now area) ⌝ }
+    requires { ⌜ (isZero w ≡ false) × (isZero x ≡ false) × (silent g ≡ false) ⌝ }
+    ensures { λ _. ⌜ now (area .exit) ≡ sendIn block g x z d (sendIn block g w s d (now (area .entry))) ⌝ }
+{
+    match g {
+        Gain::Rest(t) => add_two(area, block, s, z, d, w * t, x * t),
+        Gain::Moving(cur, step, t, left) => {
+            weigh_two(area, block, s, z, d, w, x, Gain::Moving(cur, step, t, left))
+        }
+    }
+}
+
+// One row: the sources into buffer d, by the weights from v on; two, neither of whose weights is 0, go in one pass. Requires sources and d
+// within the area, d none of them, a weight for each, a block that is not too long, and a gain that is not at rest at 0.
 fn send_row(
     area: &mut [f32],
     block: usize,
@@ -42,6 +59,14 @@ fn send_row(
     requires { ⌜ (v + length (now src) ≤ length (now weights)) × (silent g ≡ false) ⌝ }
     ensures { λ _. ⌜ now (area .exit) ≡ weighs block g (now (weights .entry)) v (now (src .entry)) d (now (area .entry)) ⌝ }
 {
+    if src.len() == 2 {
+        let w = weights[v];
+        let x = weights[v + 1];
+        if (w != 0.0) & (x != 0.0) {
+            send_two(area, block, src[0] as usize, src[1] as usize, d, w, x, g);
+            return;
+        }
+    }
     for c in 0..src.len() {
         let s = src[c] as usize;
         send_into(area, block, s, d, weights[v + c], g);

@@ -12,9 +12,10 @@ ghost use lib.Ieee.{nan};
 ghost use lib.Seq.{sets};
 ghost use Rattle.node.specs.Sizes.{maxRamp};
 ghost use Rattle.node.specs.Nodes.{gainAt};
-ghost use Rattle.mix.specs.Samples.{silence, sampled};
-ghost use Rattle.mix.specs.Mix.{added, clearBuffer, columns, rows, Inside, AllInside, Row, Buffers, Values};
-ghost use Rattle.mix.specs.Loops.{wholePiece, rowSample};
+ghost use Rattle.node.specs.declared.Gain.the-variants as gain;
+ghost use Rattle.mix.specs.Samples.{silence, sample, sampled, put};
+ghost use Rattle.mix.specs.Mix.{added, clearBuffer, columns, rows, Inside, AllInside, Pair, Row, Buffers, Values};
+ghost use Rattle.mix.specs.Loops.{plusScaled, rowSample, twoAt, Piece, wholePiece};
 
 // The m samples from p on added to the first m of t, by a gain from sample j on; a gain at rest equal to 0 is skipped. Requires at most a piece
 // of a block, within the area.
@@ -95,9 +96,9 @@ fn sum_piece(
     store(&t, area, d * block + j, m);
 }
 
-// One row: buffer d, by the gains from value v on. Requires sources and d within the area, d none of them, a value for each source, and a
-// block that is not too long.
-fn matrix_row(
+// Buffer d, all columns at each piece, by the gains from value v on. Requires sources and d within the area, d none of them, a value for
+// each source, and a block that is not too long.
+fn sum_row(
     area: &mut [f32],
     block: usize,
     src: &[u32],
@@ -134,6 +135,86 @@ fn matrix_row(
     }
     let m = block - r;
     sum_piece(area, block, src, d, cur, step, target, left, v, r, m);
+}
+
+// d = s × a + z × b, from +0 on, for m samples, from sample k on. Requires at most a piece of a block, with all parts within the area.
+fn sum_two_piece(
+    area: &mut [f32],
+    from: usize,
+    other: usize,
+    to: usize,
+    m: usize,
+    k: usize,
+    a: f32,
+    b: f32,
+)
+    requires { ⌜ Piece from to m k (now area) ⌝ }
+    requires { ⌜ Piece other to m k (now area) ⌝ }
+    ensures { λ _. ⌜ now (area .exit) ≡ twoAt (λ k x y. plusScaled (gain.Rest a) k x silence) (plusScaled (gain.Rest b)) from other to m k (now (area .entry)) ⌝ }
+{
+    let mut u = [0.0f32; PIECE];
+    add_samples(&area[from..from + m], &mut u, k, Gain::Rest(a));
+    add_samples(&area[other..other + m], &mut u, k, Gain::Rest(b));
+    store(&u, area, to, m);
+}
+
+// d = s × a + z × b, from +0 on, in one pass. Requires two buffers other than d, all within the area, and a block that is not too long.
+fn sum_two(area: &mut [f32], block: usize, s: usize, z: usize, d: usize, a: f32, b: f32)
+    requires { ⌜ Pair block s d (now area) ⌝ }
+    requires { ⌜ Pair block z d (now area) ⌝ }
+    ensures { λ _. ⌜ now (area .exit) ≡ put block d (λ k. plusScaled (gain.Rest b) k (sample block (now (area .entry)) z k) (plusScaled (gain.Rest a) k (sample block (now (area .entry)) s k) silence)) (now (area .entry)) ⌝ }
+{
+    let from = s * block;
+    let other = z * block;
+    let to = d * block;
+    let e = block / PIECE;
+    for i in 0..e {
+        sum_two_piece(
+            area,
+            from + PIECE * i,
+            other + PIECE * i,
+            to + PIECE * i,
+            PIECE,
+            PIECE * i,
+            a,
+            b,
+        );
+    }
+    let r = PIECE * e;
+    if r == block {
+        return;
+    }
+    sum_two_piece(area, from + r, other + r, to + r, block - r, r, a, b);
+}
+
+// One row: buffer d, by the gains from value v on; two columns at rest, neither at 0, go in one pass. Requires sources and d within the
+// area, d none of them, a value for each source, and a block that is not too long.
+fn matrix_row(
+    area: &mut [f32],
+    block: usize,
+    src: &[u32],
+    d: usize,
+    cur: &[f32],
+    step: &[f32],
+    target: &[f32],
+    left: u32,
+    v: usize,
+)
+    requires { ⌜ Values (v + length (now src)) (now cur) (now step) (now target) ⌝ }
+    requires { ⌜ Row block (now src) d (now area) ⌝ }
+    ensures { λ _. ⌜ now (area .exit) ≡ columns block (gainAt (now (cur .entry)) (now (step .entry)) (now (target .entry)) left) v (now (src .entry)) d (clearBuffer block d (now (area .entry))) ⌝ }
+{
+    if src.len() == 2 {
+        if left == 0 {
+            let a = target[v];
+            let b = target[v + 1];
+            if (a != 0.0) & (b != 0.0) {
+                sum_two(area, block, src[0] as usize, src[1] as usize, d, a, b);
+                return;
+            }
+        }
+    }
+    sum_row(area, block, src, d, cur, step, target, left, v);
 }
 
 // Matrix: the rows dst from the columns src, by the rows and the left of its node. Requires a value for each row and column; buffers within

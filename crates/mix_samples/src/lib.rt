@@ -4,8 +4,10 @@ mod pieces;
 mod samples;
 
 pub use pieces::add_into;
+pub use pieces::add_two;
 pub use pieces::scale_into;
 pub use pieces::weigh_into;
+pub use pieces::weigh_two;
 pub use samples::PIECE;
 pub use samples::add_samples;
 pub use samples::copy;

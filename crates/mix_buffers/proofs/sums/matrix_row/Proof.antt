@@ -1,99 +1,96 @@
--- `mix_buffers::sums::matrix_row` meets its contract: the invariant is that the first i whole pieces are summed. Assumes nothing.
-use mathlib.Core.Path.{_≡_, refl, _∙_}
-use Prim.Native.Nat.{_+_, _-_, _*_, _/_, _≤_}
+-- `mix_buffers::sums::matrix_row` meets its contract: two columns by the contract of `sum_two`, all others by that of `sum_row`. Assumes nothing.
+use mathlib.Core.Path.{_≡_, refl}
+use Prim.Native.Nat.{_+_}
+use native.Mathlib.Numerals.{add-one}
 use native.Mathlib.Omega.{arith}
-use lib.ListN.{length}
-use lib.Seq.{sets}
+use lib.ListN.{getD}
+use lib.Ieee.{nan, eq, ne}
+use borrow.Author.Tests.{eq-eqb}
 use borrow.Author.Needs.{needs}
+use Rattle.node.specs.declared.Gain.the-variants.{Rest}
 use Rattle.node.specs.Nodes.{gainAt}
-use Rattle.mix.specs.Samples.{silence, sampled}
-use Rattle.mix.specs.Loops.{rowSample, wholePiece}
-use Rattle.mix.proofs.Rows.{row-start, row-piece, row-whole-piece, row-done}
+use Rattle.mix.specs.Mix.{isZero}
+use Rattle.mix.proofs.Given.{pair-of, first-not, second-not}
+use Rattle.mix.proofs.Rows.{two-summed}
 use Rattle.mix_buffers.proofs.sums.matrix_row.Statement.{statement}
 use Rattle.mix_buffers.proofs.sums.matrix_row.Tie as tie
 
-abbrev Inv-loop : tie.InvT-loop
-Inv-loop area₀ block src d cur step target left v e i₀ area i = (i ≤ e) × (length area ≡ length area₀) × (area ≡ sets area₀ (d * block) (sampled (wholePiece * i) (λ k. rowSample block (gainAt cur step target left) v src area₀ k silence)))
+mul-a : tie.Need-mul-a
+mul-a c = search needs
 
-abbrev μ-loop : tie.MeasureT-loop
-μ-loop area₀ block src d cur step target left v e i₀ area i = e - i
+shared-slice-read-a : tie.Need-shared-slice-read-a
+shared-slice-read-a c = search needs
 
-loop-holds : tie.Need-loop-holds Inv-loop μ-loop
-loop-holds c = let a = c .before .before .before .before .before .args in (search needs, refl, row-start (a .block) (gainAt (a .cur .now) (a .step .now) (a .target .now) (a .left)) (a .v) (a .src .now) (a .d) (a .area .now) (c .before .before .before .before .before .pre .1))
+add-b : tie.Need-add-b
+add-b c = search needs
 
-mul-sum-piece : tie.Need-mul-sum-piece Inv-loop μ-loop
-mul-sum-piece c = search needs
+mul-b : tie.Need-mul-b
+mul-b c = search needs
 
-sum-piece-requires : tie.Need-sum-piece-requires Inv-loop μ-loop
-sum-piece-requires c κs =
-    let l = c .before .before .loop in
-    let p = c .before .before .before .before .before .before .before .before .pre in
-    (p .0, ((omega arith, search needs, omega arith, omega (arith, p .1 .target)), λ j h. omega (arith, p .1 .sources j h)))
+shared-slice-read-b : tie.Need-shared-slice-read-b
+shared-slice-read-b c = search needs
 
-add-i : tie.Need-add-i Inv-loop μ-loop
-add-i c = search needs
+shared-slice-read-sum-two : tie.Need-shared-slice-read-sum-two
+shared-slice-read-sum-two c = search needs
 
-loop-less : tie.Need-loop-less Inv-loop μ-loop
-loop-less c = search needs
+cast-sum-two : tie.Need-cast-sum-two
+cast-sum-two c = omega (arith, c .shared-slice-known7 .given 0)
 
-loop-again : tie.Need-loop-again Inv-loop μ-loop
-loop-again c =
-    let a = c .before .before .before .before .before .before .before .before .before .before .before .args in
-    let l = c .before .before .before .before .before .loop in (
-      search needs,
-      c .before .before .sum-piece .kept .0 ∙ l .inv .1,
-      row-whole-piece (a .block) (gainAt (a .cur .now) (a .step .now) (a .target .now) (a .left)) (a .v) (a .src .now) (a .d) (a .area .now) (c .before .before .before .before .before .before .before .before .before .before .before .pre .1) (l .i) (omega arith) (l .inv .2) (c .before .before .sum-piece .ensures),
-    )
+shared-slice-read-sum-two-2 : tie.Need-shared-slice-read-sum-two-2
+shared-slice-read-sum-two-2 c = search needs
 
-mul-r : tie.Need-mul-r Inv-loop μ-loop
-mul-r c = search needs
+cast-sum-two-2 : tie.Need-cast-sum-two-2
+cast-sum-two-2 c = omega (arith, c .shared-slice-known8 .given 1)
 
-same-length : tie.Need-same-length Inv-loop μ-loop
-same-length c = omega arith
+sum-two-requires : tie.Need-sum-two-requires
+sum-two-requires c κs =
+    let p = c .before .before .before .before .before .before .before .before .before .before .before .before .before .pre in
+    let n = c .before .before .before .before .before .before .before .if1 .taken in
+    (pair-of refl (p .1) 0 (omega arith), pair-of refl (p .1) 1 (omega arith))
 
-returns : tie.Need-returns Inv-loop μ-loop
+same-length : tie.Need-same-length
+same-length c = search needs
+
+returns : tie.Need-returns
+unfolding eq ne
 returns c =
-    let a = c .before .before .before .before .before .before .before .before .args in
-    let l = c .before .before .loop in row-done (a .block) (gainAt (a .cur .now) (a .step .now) (a .target .now) (a .left)) (a .v) (a .src .now) (a .d) (a .area .now) (c .before .before .before .before .before .before .before .before .pre .1) (wholePiece * l .i) (omega arith) (l .inv .2)
+    let a = c .before .before .before .before .before .before .before .before .before .before .before .before .before .before .before .before .args in
+    let z : a .left ≡ 0 = c .before .before .before .before .before .before .before .before .before .if2 .taken in
+    let x = getD (a .target .now) (a .v) nan in
+    let y = getD (a .target .now) (a .v + 1) nan in
+    let b = c .before .before .before .before .before .before .if3 .taken in
+    two-summed (a .block) (gainAt (a .cur .now) (a .step .now) (a .target .now) (a .left)) (a .v) (a .src .now) (a .d) (a .area .now) (Rest x) (Rest y) (c .before .before .before .before .before .before .before .before .before .before .if1 .taken) (c .before .before .before .before .before .before .before .before .before .before .before .before .before .before .before .before .pre .1)
+    (simp (eq-eqb _ _ z))
+    (rw (add-one (a .v)) (simp (eq-eqb _ _ z)))
+    (first-not (isZero x) (isZero y) b)
+    (second-not (isZero x) (isZero y) b)
+    (c .before .before .sum-two .ensures)
 
-sub-m : tie.Need-sub-m Inv-loop μ-loop
-sub-m c = search needs
+sum-row-requires : tie.Need-sum-row-requires
+sum-row-requires c κs = search needs
 
-sum-piece-requires-2 : tie.Need-sum-piece-requires-2 Inv-loop μ-loop
-sum-piece-requires-2 c κs =
-    let l = c .before .before .before .loop in
-    let p = c .before .before .before .before .before .before .before .before .before .pre in
-    (p .0, ((omega arith, search needs, omega arith, omega (arith, p .1 .target)), λ j h. omega (arith, p .1 .sources j h)))
-
-same-length-2 : tie.Need-same-length-2 Inv-loop μ-loop
+same-length-2 : tie.Need-same-length-2
 same-length-2 c = search needs
 
-returns-2 : tie.Need-returns-2 Inv-loop μ-loop
-returns-2 c =
-    let a = c .before .before .before .before .before .before .before .before .before .before .before .before .args in
-    let l = c .before .before .before .before .before .before .loop in
-    let p = c .before .before .before .before .before .before .before .before .before .before .before .before .pre .1 in
-    let n = a .block / wholePiece in
-    let e : l .i ≡ n = omega arith in
-    row-done (a .block) (gainAt (a .cur .now) (a .step .now) (a .target .now) (a .left)) (a .v) (a .src .now) (a .d) (a .area .now) p (wholePiece * n + (a .block - wholePiece * n)) (omega arith)
-    (row-piece (a .block) (gainAt (a .cur .now) (a .step .now) (a .target .now) (a .left)) (a .v) (a .src .now) (a .d) (a .area .now) p (wholePiece * n) (a .block - wholePiece * n) (omega arith) (rw e at (l .inv .2)) (c .before .before .sum-piece2 .ensures))
+returns-2 : tie.Need-returns-2
+returns-2 c = search needs
 
 pub matrix-row-spec : {M : Type 1} → statement M
 matrix-row-spec =
     tie.close
     (tie.spec
-    Inv-loop
-    μ-loop
-    loop-holds
-    mul-sum-piece
-    sum-piece-requires
-    add-i
-    loop-less
-    loop-again
-    mul-r
+    mul-a
+    shared-slice-read-a
+    add-b
+    mul-b
+    shared-slice-read-b
+    shared-slice-read-sum-two
+    cast-sum-two
+    shared-slice-read-sum-two-2
+    cast-sum-two-2
+    sum-two-requires
     same-length
     returns
-    sub-m
-    sum-piece-requires-2
+    sum-row-requires
     same-length-2
     returns-2)
