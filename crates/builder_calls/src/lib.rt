@@ -1,7 +1,5 @@
 // The builder calls, which lay out a plan in lent areas. Ports `PlanBuilder` of src/engine/plan.rs. Each call is total: it tests what
 // docs/DECISIONS.md, point 2, lists, and a refused one changes nothing.
-mod areas;
-
 use builder::NumberAnswer;
 use builder::SpanAnswer;
 use lists::put_floats;
@@ -72,7 +70,7 @@ impl PlanBuilder {
             Answer::Accepted => {
                 let from = plan.buffers;
                 let at = plan.indices;
-                areas::put_numbers(from, n, at, indices);
+                builder_areas::put_numbers(from, n, at, indices);
                 let mut grown = plan;
                 grown.buffers = from + n;
                 grown.indices = at + n;
@@ -190,7 +188,7 @@ impl PlanBuilder {
             Answer::Accepted => {
                 let n = builder_answers::record_length(record);
                 let at = plan.words;
-                areas::put_words(record, n, at, steps);
+                builder_areas::put_words(record, n, at, steps);
                 let mut grown = plan;
                 grown.steps = grown.steps + 1;
                 grown.words = at + n;
@@ -213,7 +211,7 @@ impl PlanBuilder {
             },
             Answer::Accepted => {
                 let n = plan.buffers * plan.block;
-                areas::put_zeros(n, buffers);
+                builder_areas::put_zeros(n, buffers);
                 Grown {
                     plan,
                     answer: Answer::Accepted,

@@ -3,7 +3,6 @@
 mod buffers;
 mod gains;
 mod sends;
-mod sums;
 
 pub use buffers::append;
 pub use buffers::clear;
@@ -11,4 +10,3 @@ pub use buffers::copy_buffer;
 pub use buffers::fill_buffer;
 pub use gains::gain;
 pub use sends::send;
-pub use sums::matrix;

@@ -73,7 +73,7 @@ fn matrix_buffers(
     let left = node_areas::left_of(words, n);
     let from = plan_steps::numbers(indices, src);
     let to = plan_steps::numbers(indices, dst);
-    mix_buffers::matrix(buffers, plan.block, from, to, cur, step, target, left);
+    mix_matrix::matrix(buffers, plan.block, from, to, cur, step, target, left);
 }
 
 // The buffers after a Send, by the weights `w`. Requires what the tests said of it.
