@@ -14,7 +14,13 @@
  * - a length is not larger than the memory behind its pointer, and the pointer is aligned for its elements;
  * - a pointer is not null where its length is above 0;
  * - an area that a call writes (a pointer without const) overlaps no other area of that call;
- * - no other thread writes an area of a call while it runs, or reads one that it writes.
+ * - no other thread writes an area of a call while it runs, or reads one that it writes;
+ * - the thread's floating-point state is the default one: round to nearest, no flush-to-zero, no denormals-are-zero, exceptions masked. With
+ *   flush-to-zero on, as audio hosts have it, a sample of 1e-38 times a gain of 0.1 is 0 and not the float with the bits 000ae398; with upward
+ *   rounding bits differ; with exceptions unmasked mixer_balance_gains(0.3) can end the program (tests/floats.c);
+ * - the thread has stack left for the call: mixer_width_matrix uses at most 24 KB, mixer_output_sources and mixer_all_sources at most 10 KB, every
+ *   other call at most 2 KB, the arguments included (tests/stack.c). The library calls memcpy and memset: where the linker looks these up at their
+ *   first call, some 3 KB come on top once.
  */
 #ifndef MIXER_H
 #define MIXER_H
@@ -227,7 +233,9 @@ typedef struct {
     bool clean;
 } mixer_clean_reply;
 
-/* The inputs behind a slot, ascending, to `list`, whatever the gains are; 256 places are always enough. Refused: as the plan check, then 15, 2. */
+/* The inputs behind a slot, ascending, to `list`, whatever the gains are; 256 places are always enough. Each call checks the plan again: for the
+ * lists of all slots mixer_all_sources is the call, in less than a fifth of the Rust mixer's time. Slot by slot, at 32 slots, they take up to twice
+ * the Rust mixer's time (README.md has the figures). Refused: as the plan check, then 15, 2. */
 mixer_count_reply mixer_output_sources(mixer_plan plan, uint32_t slot, const uint32_t *indices, size_t indices_len,
                                        const uint32_t *node_words, size_t node_words_len, const uint32_t *steps, size_t steps_len,
                                        uint16_t *list, size_t list_len);

@@ -1,179 +1,345 @@
-/* Calls each function that include/mixer.h declares, once accepted and once refused where it can be, and looks at the reply and at the areas. */
+/* Calls each function that include/mixer.h declares, once accepted and once refused where it can be, and looks at the reply and at the areas.
+ * A proof cannot see a field or a parameter of the header that stands in another's place. So no two counts, gains or numbers of a record or a
+ * call are alike here, fields are named where a record is made, and each area is lent just as long as the call needs it, no two equally long. */
 #include <math.h>
-#include <stdio.h>
 #include <string.h>
 
-#include "mixer.h"
+#include "check.h"
 
-static int failures;
+enum { BLOCK = 2, BUFFERS = 5, INDICES = 8, COEFFICIENTS = 4, NODES = 3, STEPS = 7, WORDS = 35 };
+enum { NODE_FLOATS = NODES * MIXER_NODE_FLOATS, NODE_WORDS = NODES * MIXER_NODE_WORDS, SOUND = BUFFERS * BLOCK };
+enum { DIRECTORY = 3 * MIXER_ENTRY_WORDS, SAMPLES = 5, OUTPUT = 6, SOURCES = 2, SLOTS = 2, LISTS = SLOTS * MIXER_INPUTS };
+enum { OLD_NODES = 2, OLD_FLOATS = OLD_NODES * MIXER_NODE_FLOATS, OLD_WORDS = OLD_NODES * MIXER_NODE_WORDS, PAIRS = 4 };
 
-#define CHECK(c) ((c) ? (void)0 : (void)(failures++, printf("calls.c:%d: not so: %s\n", __LINE__, #c)))
-#define REFUSED(s, n, p) CHECK((s).number == (n) && (s).place == (p))
-#define ACCEPTED(s) REFUSED(s, MIXER_ACCEPTED, 0)
+/* As much room for every area as the longest has, so that the length of another one stays within it too. */
+enum { ROOM = LISTS };
 
-static uint32_t indices[8], node_words[6], steps[32];
-static float coefficients[4], node_floats[144], buffers[16];
+static uint32_t indices[ROOM], node_words[ROOM], steps[ROOM];
+static float coefficients[ROOM], node_floats[ROOM], buffers[ROOM];
 
-/* A plan with its buffers, a coefficient and a node. */
-static mixer_plan tables(void)
+static bool same(mixer_plan a, mixer_plan b)
 {
-    static const float half[] = {0.5f}, weight[] = {1.0f};
-    const mixer_span none = {0, 0}, both = {0, 2};
-    mixer_plan p = mixer_new(2).plan;
+    return memcmp(&a, &b, sizeof a) == 0;
+}
+
+/* Five buffers, and eight index entries: the three between the two calls are the caller's own. */
+static mixer_plan with_buffers(void)
+{
+    mixer_plan p = mixer_new(BLOCK).plan;
     mixer_span_reply s;
-    mixer_node_reply n;
     REFUSED(mixer_new(1025).status, MIXER_BLOCK_LENGTH, 0);
-    CHECK(mixer_new(1025).plan.block == 1025 && p.block == 2 && p.buffers == 0);
-    s = mixer_buffers(p, 3, indices, 8);
+    CHECK(mixer_new(1025).plan.block == 1025);
+    CHECK(p.block == 2 && p.buffers == 0 && p.indices == 0 && p.coefficients == 0 && p.nodes == 0 && p.steps == 0 && p.words == 0);
+    s = mixer_buffers(p, 3, indices, 3);
     ACCEPTED(s.status);
-    CHECK(s.span.start == 0 && s.span.len == 3 && s.plan.buffers == 3 && s.plan.indices == 3 && indices[2] == 2);
+    CHECK(s.span.start == 0 && s.span.len == 3 && s.plan.buffers == 3 && s.plan.indices == 3);
     p = s.plan;
-    s = mixer_buffers(p, 1, indices, 3);
+    indices[3] = 2;
+    indices[4] = 0;
+    indices[5] = 1;
+    p.indices = 6;
+    s = mixer_buffers(p, 2, indices, INDICES - 1);
     REFUSED(s.status, MIXER_SHORT_AREA, 0);
-    CHECK(s.span.start == 0 && s.span.len == 0 && memcmp(&s.plan, &p, sizeof p) == 0);
-    CHECK(mixer_first(both, 1).len == 1 && mixer_first(both, 9).len == 2 && mixer_first(none, 9).start == 0);
-    CHECK(mixer_buffer(p, both, 1, indices, 8).buffer == 1);
-    REFUSED(mixer_buffer(p, both, 3, indices, 8).status, MIXER_SHORT_AREA, 0);
-    s = mixer_coefficients(p, weight, 1, coefficients, 4);
+    CHECK(s.span.start == 0 && s.span.len == 0 && same(s.plan, p) && indices[6] == 0);
+    s = mixer_buffers(p, 2, indices, INDICES);
     ACCEPTED(s.status);
-    CHECK(s.span.start == 0 && s.span.len == 1 && s.plan.coefficients == 1 && coefficients[0] == 1.0f);
+    CHECK(s.span.start == 6 && s.span.len == 2 && s.plan.block == BLOCK && s.plan.buffers == BUFFERS && s.plan.indices == INDICES);
+    CHECK(indices[0] == 0 && indices[1] == 1 && indices[2] == 2 && indices[3] == 2 && indices[6] == 3 && indices[7] == 4 && indices[8] == 0);
+    return s.plan;
+}
+
+static void spans(mixer_plan p)
+{
+    const mixer_span last = {.start = 6, .len = 2};
+    mixer_buffer_reply b = mixer_buffer(p, last, 1, indices, INDICES);
+    CHECK(mixer_first(last, 1).start == 6 && mixer_first(last, 1).len == 1 && mixer_first(last, 9).start == 6 && mixer_first(last, 9).len == 2);
+    ACCEPTED(b.status);
+    CHECK(b.buffer == 4);
+    b = mixer_buffer(p, last, 2, indices, INDICES + 1);
+    REFUSED(b.status, MIXER_SHORT_AREA, 0);
+    CHECK(b.buffer == 0);
+}
+
+static mixer_plan with_coefficients(mixer_plan p)
+{
+    static float one[ROOM] = {100.0f}, three[ROOM] = {0.5f, 0.25f, 200.0f};
+    mixer_span_reply s = mixer_coefficients(p, one, 1, coefficients, 1);
+    ACCEPTED(s.status);
+    CHECK(s.span.start == 0 && s.span.len == 1 && s.plan.coefficients == 1 && coefficients[0] == 100.0f);
     p = s.plan;
-    REFUSED(mixer_coefficients(p, weight, 1, coefficients, 1).status, MIXER_SHORT_AREA, 0);
-    n = mixer_node(p, 77, half, 1, 0, node_floats, 144, node_words, 6);
+    s = mixer_coefficients(p, three, 3, coefficients, COEFFICIENTS - 1);
+    REFUSED(s.status, MIXER_SHORT_AREA, 0);
+    CHECK(s.span.start == 0 && s.span.len == 0 && same(s.plan, p) && coefficients[1] == 0.0f);
+    s = mixer_coefficients(p, three, 3, coefficients, COEFFICIENTS);
+    ACCEPTED(s.status);
+    CHECK(s.span.start == 1 && s.span.len == 3 && s.plan.coefficients == COEFFICIENTS);
+    CHECK(coefficients[0] == 100.0f && coefficients[1] == 0.5f && coefficients[2] == 0.25f && coefficients[3] == 200.0f);
+    return s.plan;
+}
+
+/* Node 0 with two values, node 1 with two, node 2 with one, which fades in over 16 samples. */
+static mixer_plan with_nodes(mixer_plan p)
+{
+    static float levels[ROOM] = {0.5f, 0.25f}, row[ROOM] = {2.0f, 8.0f}, send[ROOM] = {4.0f};
+    mixer_node_reply n = mixer_node(p, 70, levels, 2, 0, node_floats, 72, node_words, 3);
     ACCEPTED(n.status);
-    CHECK(n.node == 0 && n.plan.nodes == 1 && node_words[0] == 77 && node_words[1] == 1 && node_floats[0] == 0.5f && node_floats[24] == 0.5f);
+    CHECK(n.node == 0 && n.plan.nodes == 1);
+    n = mixer_node(n.plan, 71, row, 2, 0, node_floats, 144, node_words, 6);
+    ACCEPTED(n.status);
+    CHECK(n.node == 1 && n.plan.nodes == 2);
     p = n.plan;
-    n = mixer_node(p, 77, half, 1, 0, node_floats, 144, node_words, 6);
+    n = mixer_node(p, 71, send, 1, 16, node_floats, NODE_FLOATS, node_words, NODE_WORDS);
     REFUSED(n.status, MIXER_ID_TAKEN, 0);
-    CHECK(n.node == 0 && n.plan.nodes == 1 && node_words[3] == 0);
+    CHECK(n.node == 0 && same(n.plan, p) && node_words[6] == 0);
+    n = mixer_node(p, 72, send, 1, 16, node_floats, NODE_FLOATS, node_words, NODE_WORDS);
+    ACCEPTED(n.status);
+    CHECK(n.node == 2 && n.plan.nodes == NODES);
+    CHECK(node_words[0] == 70 && node_words[1] == 2 && node_words[2] == 0 && node_words[6] == 72 && node_words[7] == 1 && node_words[8] == 16);
+    CHECK(node_floats[0] == 0.5f && node_floats[1] == 0.25f && node_floats[24] == 0.5f && node_floats[25] == 0.25f);
+    CHECK(node_floats[144] == 0.0f && node_floats[168] == 4.0f && node_floats[192] == 0.25f && node_words[9] == 0);
+    return n.plan;
+}
+
+/* The steps, one of each map and a second Patch, each with what is behind it as words past its record; then the plan is finished. */
+static mixer_plan with_steps(mixer_plan p)
+{
+    static uint32_t records[ROOM] = {MIXER_PATCH, 255, 3, 0, MIXER_PATCH, 9, 6, 2, MIXER_CLEAR, 5, 1, MIXER_GAIN, 0, 3, 3, 6, 2, MIXER_MATRIX,
+                                     1, 6, 2, 1, 1, MIXER_SEND, 2, 0, 1, 6, 2, 1, 2, MIXER_OUTPUT, 5, 3, 1};
+    static const size_t ends[STEPS] = {4, 8, 11, 17, 23, 31, WORDS};
+    mixer_plan_reply r = mixer_step(p, records, 3, steps, 4);
+    size_t i, at = 0;
+    REFUSED(r.status, MIXER_UNREADABLE_STEP, 0);
+    CHECK(same(r.plan, p));
+    for (i = 0; i < STEPS; i++) {
+        r = mixer_step(p, records + at, WORDS - at, steps, ends[i]);
+        ACCEPTED(r.status);
+        CHECK(r.plan.steps == i + 1 && r.plan.words == ends[i] && memcmp(steps, records, ends[i] * sizeof steps[0]) == 0);
+        p = r.plan;
+        at = ends[i];
+    }
+    buffers[0] = 1.0f;
+    r = mixer_finish(p, buffers, SOUND - 1);
+    REFUSED(r.status, MIXER_SHORT_AREA, 0);
+    CHECK(same(r.plan, p) && buffers[0] == 1.0f);
+    r = mixer_finish(p, buffers, SOUND);
+    ACCEPTED(r.status);
+    CHECK(same(r.plan, p) && buffers[0] == 0.0f);
+    CHECK(p.block == BLOCK && p.buffers == BUFFERS && p.indices == INDICES && p.coefficients == COEFFICIENTS);
+    CHECK(p.nodes == NODES && p.steps == STEPS && p.words == WORDS && steps[WORDS] == 0);
     return p;
 }
 
-/* The same plan with its steps, finished. */
-static mixer_plan built(mixer_plan p)
+static mixer_status check(mixer_plan p)
 {
-    static const uint32_t patch[] = {MIXER_PATCH, 255, 3, 0}, gain[] = {MIXER_GAIN, 0, 0, 1, 1, 2}, bad[] = {MIXER_GAIN, 0};
-    static const uint32_t output[] = {MIXER_OUTPUT, 0, 1, 1};
-    mixer_plan_reply r;
-    REFUSED(mixer_step(p, bad, 2, steps, 32).status, MIXER_UNREADABLE_STEP, 0);
-    r = mixer_step(p, patch, 4, steps, 32);
-    ACCEPTED(r.status);
-    r = mixer_step(r.plan, gain, 6, steps, 32);
-    ACCEPTED(r.status);
-    r = mixer_step(r.plan, output, 4, steps, 32);
-    ACCEPTED(r.status);
-    CHECK(r.plan.steps == 3 && r.plan.words == 14 && steps[4] == MIXER_GAIN);
-    buffers[0] = 1.0f;
-    REFUSED(mixer_finish(r.plan, buffers, 5).status, MIXER_SHORT_AREA, 0);
-    CHECK(buffers[0] == 1.0f);
-    ACCEPTED(mixer_finish(r.plan, buffers, 16).status);
-    CHECK(buffers[0] == 0.0f);
-    return r.plan;
+    return mixer_check_plan(p, indices, INDICES, coefficients, COEFFICIENTS, node_floats, NODE_FLOATS, node_words, NODE_WORDS, steps, WORDS,
+                            buffers, SOUND);
 }
 
-static void used(mixer_plan p)
+static void checked(mixer_plan p)
 {
-    static const uint32_t directory[] = {255, 3, 1, 2};
-    static const float samples[] = {8, 4, 2}, one[] = {1.0f, 9.0f};
-    static const uint32_t pairs[] = {0, 0, 5, 0};
-    float output[3] = {7, 7, 7}, part[3] = {7, 7, 7}, old_floats[72];
-    uint32_t old_words[3];
-    mixer_count_reply r;
-    ACCEPTED(mixer_check_plan(p, indices, 8, coefficients, 4, node_floats, 144, node_words, 6, steps, 32, buffers, 16));
-    steps[4] = 1;
-    REFUSED(mixer_check_plan(p, indices, 8, coefficients, 4, node_floats, 144, node_words, 6, steps, 32, buffers, 16), MIXER_UNREADABLE_STEP, 2);
-    steps[4] = MIXER_GAIN;
-    memcpy(old_floats, node_floats, sizeof old_floats);
-    memcpy(old_words, node_words, sizeof old_words);
-    REFUSED(mixer_set_param(p, 78, one, 2, 4, node_floats, 144, node_words, 6), MIXER_UNKNOWN_ID, 0);
-    ACCEPTED(mixer_set_param(p, 77, one, 2, 4, node_floats, 144, node_words, 6));
-    CHECK(node_words[2] == 4 && node_floats[0] == 0.5f && node_floats[24] == 1.0f && node_floats[25] == 0.0f && node_floats[48] == 0.125f);
-    REFUSED(mixer_adopt(p, node_floats, 144, node_words, 6, p, old_floats, 72, old_words, 3, pairs, 3, 0), MIXER_ODD_LIST, 0);
-    ACCEPTED(mixer_adopt(p, node_floats, 144, node_words, 6, p, old_floats, 72, old_words, 3, pairs, 4, 2));
-    CHECK(node_words[2] == 2 && node_floats[0] == 0.5f && node_floats[48] == 0.25f);
-    r = mixer_process(p, indices, 8, coefficients, 4, node_floats, 144, node_words, 6, steps, 32, buffers, 16, directory, 4, samples, 3, output, 1);
+    ACCEPTED(check(p));
+    steps[11] = 1;
+    REFUSED(check(p), MIXER_UNREADABLE_STEP, 4);
+    steps[11] = MIXER_GAIN;
+}
+
+static void set(mixer_plan p)
+{
+    static float values[ROOM] = {3.0f, 9.0f};
+    REFUSED(mixer_set_param(p, 73, values, 2, 4, node_floats, NODE_FLOATS, node_words, NODE_WORDS), MIXER_UNKNOWN_ID, 0);
+    CHECK(node_words[8] == 16);
+    ACCEPTED(mixer_set_param(p, 72, values, 2, 4, node_floats, NODE_FLOATS, node_words, NODE_WORDS));
+    CHECK(node_words[6] == 72 && node_words[7] == 1 && node_words[8] == 4);
+    CHECK(node_floats[144] == 0.0f && node_floats[168] == 3.0f && node_floats[169] == 0.0f && node_floats[192] == 0.75f);
+    values[0] = 4.0f;
+    ACCEPTED(mixer_set_param(p, 72, values, 1, 0, node_floats, NODE_FLOATS, node_words, NODE_WORDS));
+    CHECK(node_words[8] == 0 && node_floats[144] == 4.0f && node_floats[168] == 4.0f);
+}
+
+/* Node 2 takes over from node 0 of an old plan of two nodes, node 0 from its node 1. */
+static void adopted(mixer_plan p)
+{
+    static float old_floats[ROOM];
+    static uint32_t old_words[ROOM] = {80, 1, 0, 81, 2, 0}, pairs[ROOM] = {2, 0, 0, 1};
+    mixer_plan old = p;
+    old.nodes = OLD_NODES;
+    old_floats[0] = 3.0f;
+    old_floats[72] = 1.0f;
+    old_floats[73] = 0.5f;
+    REFUSED(mixer_adopt(p, node_floats, NODE_FLOATS, node_words, NODE_WORDS, old, old_floats, OLD_FLOATS, old_words, OLD_WORDS, pairs, 3, 2),
+            MIXER_ODD_LIST, 0);
+    CHECK(node_words[8] == 0 && node_floats[144] == 4.0f);
+    ACCEPTED(mixer_adopt(p, node_floats, NODE_FLOATS, node_words, NODE_WORDS, old, old_floats, OLD_FLOATS, old_words, OLD_WORDS, pairs, PAIRS, 2));
+    CHECK(node_words[2] == 2 && node_floats[0] == 1.0f && node_floats[1] == 0.5f && node_floats[24] == 0.5f && node_floats[48] == -0.25f);
+    CHECK(node_words[5] == 0 && node_floats[72] == 2.0f && node_floats[73] == 8.0f);
+    CHECK(node_words[8] == 2 && node_floats[144] == 3.0f && node_floats[168] == 4.0f && node_floats[192] == 0.5f);
+}
+
+/* An entry of no samples, and one for each Patch; the last sample is the end of a part. */
+static uint32_t directory[ROOM] = {0, 0, 5, 0, 9, 6, 3, 2, 255, 3, 1, 2};
+static float samples[ROOM] = {64, 4, 2, 16, 32};
+
+static mixer_count_reply run(mixer_plan p, size_t entries, size_t sounds, float *output, size_t output_len)
+{
+    return mixer_process(p, indices, INDICES, coefficients, COEFFICIENTS, node_floats, NODE_FLOATS, node_words, NODE_WORDS, steps, WORDS, buffers,
+                         SOUND, entries > 0 ? directory : NULL, entries, sounds > 0 ? samples : NULL, sounds, output, output_len);
+}
+
+static void ran(mixer_plan p)
+{
+    static const float first[OUTPUT] = {36, 36, 19, 20, 5, 2.5f}, silent[OUTPUT];
+    static float output[ROOM] = {7, 7, 7, 7, 7, 7, 7};
+    mixer_count_reply r = run(p, DIRECTORY, SAMPLES, output, OUTPUT - 1);
     REFUSED(r.status, MIXER_SHORT_OUTPUT, 0);
-    CHECK(r.count == 0 && output[0] == 7 && node_words[2] == 2);
-    r = mixer_process(p, indices, 8, coefficients, 4, node_floats, 144, node_words, 6, steps, 32, buffers, 16, directory, 4, samples, 3, output, 3);
+    CHECK(r.count == 0 && output[0] == 7 && node_words[2] == 2 && buffers[0] == 0);
+    REFUSED(run(p, DIRECTORY, SAMPLES - 1, output, OUTPUT).status, MIXER_BAD_DIRECTORY, 0);
+    REFUSED(run(p, DIRECTORY + 1, SAMPLES, output, OUTPUT).status, MIXER_BAD_DIRECTORY, 0);
+    r = run(p, DIRECTORY, SAMPLES, output, OUTPUT);
     ACCEPTED(r.status);
-    CHECK(r.count == 2 && output[0] == 4 && output[1] == 2 && output[2] == 7 && buffers[2] == 3 && buffers[3] == 2 && node_words[2] == 0);
-    r = mixer_process(p, indices, 8, coefficients, 4, node_floats, 144, node_words, 6, steps, 32, buffers, 16, NULL, 0, NULL, 0, output, 3);
+    CHECK(r.count == OUTPUT && memcmp(output, first, sizeof first) == 0 && output[OUTPUT] == 7);
+    CHECK(buffers[0] == 4 && buffers[1] == 2 && buffers[4] == 16 && buffers[5] == 32 && memcmp(buffers + 6, first + 2, 4 * sizeof first[0]) == 0);
+    CHECK(node_words[2] == 0 && node_words[8] == 0 && node_floats[0] == 0.5f && node_floats[144] == 4.0f);
+    r = run(p, 0, 0, output, OUTPUT);
     ACCEPTED(r.status);
-    CHECK(r.count == 2 && output[0] == 0 && output[1] == 0 && output[2] == 7);
-    r = mixer_lookup(directory, 4, samples, 3, 255, 3, part, 3);
+    CHECK(r.count == OUTPUT && memcmp(output, silent, sizeof silent) == 0 && output[OUTPUT] == 7);
+}
+
+static void looked_up(void)
+{
+    static float part[ROOM] = {7, 7, 7};
+    mixer_count_reply r = mixer_lookup(directory, DIRECTORY, samples, SAMPLES, 255, 3, part, 1);
+    REFUSED(r.status, MIXER_SHORT_AREA, 0);
+    CHECK(r.count == 0 && part[0] == 7);
+    r = mixer_lookup(directory, DIRECTORY, samples, SAMPLES, 255, 3, part, 2);
     ACCEPTED(r.status);
     CHECK(r.count == 2 && part[0] == 4 && part[1] == 2 && part[2] == 7);
-    r = mixer_lookup(directory, 4, samples, 3, 255, 3, part + 2, 1);
-    REFUSED(r.status, MIXER_SHORT_AREA, 0);
-    CHECK(r.count == 0 && part[2] == 7 && mixer_lookup(directory, 4, samples, 3, 255, 4, NULL, 0).count == 0);
-    CHECK(mixer_directory_bad(directory, 4, 2) && mixer_directory_bad(directory, 3, 3) && !mixer_directory_bad(directory, 4, 3));
+    r = mixer_lookup(directory, DIRECTORY, samples, SAMPLES, 255, 4, NULL, 0);
+    ACCEPTED(r.status);
+    CHECK(r.count == 0);
+    CHECK(!mixer_directory_bad(directory, DIRECTORY, SAMPLES) && mixer_directory_bad(directory, DIRECTORY, SAMPLES - 1));
+    CHECK(mixer_directory_bad(directory, SAMPLES, DIRECTORY));
+}
+
+static mixer_count_reply sources(mixer_plan p, uint32_t slot, uint16_t *list, size_t list_len)
+{
+    return mixer_output_sources(p, slot, indices, INDICES, node_words, NODE_WORDS, steps, WORDS, list, list_len);
 }
 
 static void traced(mixer_plan p)
 {
-    static uint16_t lists[513];
-    uint16_t list[2] = {7, 7};
-    uint32_t counts[3] = {7, 7, 7};
-    mixer_count_reply r = mixer_output_sources(p, 1, indices, 8, node_words, 6, steps, 32, list, 2);
-    mixer_clean_reply c = mixer_clean_answer(p, indices, 8, node_words, 6, steps, 32);
-    ACCEPTED(r.status);
-    CHECK(r.count == 1 && list[0] == 255 && list[1] == 7);
-    REFUSED(mixer_output_sources(p, 2, indices, 8, node_words, 6, steps, 32, list, 2).status, MIXER_NO_SLOT, 0);
-    REFUSED(mixer_output_sources(p, 1, indices, 8, node_words, 6, steps, 32, list, 0).status, MIXER_SHORT_AREA, 0);
-    lists[0] = lists[257] = lists[512] = 7;
-    r = mixer_all_sources(p, indices, 8, node_words, 6, steps, 32, counts, 2, lists, 511);
+    static uint16_t list[ROOM] = {7, 7, 7};
+    mixer_count_reply r = sources(p, 1, list, SOURCES - 1);
+    mixer_clean_reply c = mixer_clean_answer(p, indices, INDICES, node_words, NODE_WORDS, steps, WORDS);
     REFUSED(r.status, MIXER_SHORT_AREA, 0);
-    CHECK(r.count == 0 && counts[0] == 7 && counts[1] == 7 && lists[256] == 0);
-    REFUSED(mixer_all_sources(p, indices, 8, node_words, 6, steps, 32, counts, 1, lists, 513).status, MIXER_SHORT_AREA, 0);
-    REFUSED(mixer_all_sources(p, indices, 2, node_words, 6, steps, 32, counts, 3, lists, 513).status, MIXER_SHORT_AREA, 0);
-    r = mixer_all_sources(p, indices, 8, node_words, 6, steps, 32, counts, 3, lists, 513);
+    CHECK(r.count == 0 && list[0] == 7);
+    r = sources(p, 1, list, SOURCES);
     ACCEPTED(r.status);
-    CHECK(r.count == 2 && counts[0] == 0 && counts[1] == 1 && counts[2] == 7);
-    CHECK(lists[0] == 7 && lists[256] == 255 && lists[257] == 7 && lists[512] == 7);
-    ACCEPTED(c.status);
-    CHECK(!c.clean);
-    steps[9] = 1;
-    c = mixer_clean_answer(p, indices, 8, node_words, 6, steps, 32);
+    CHECK(r.count == SOURCES && list[0] == 9 && list[1] == 255 && list[2] == 7);
+    REFUSED(sources(p, 2, list, SOURCES).status, MIXER_NO_SLOT, 0);
     ACCEPTED(c.status);
     CHECK(c.clean);
-    REFUSED(mixer_clean_answer(p, indices, 2, node_words, 6, steps, 32).status, MIXER_SHORT_AREA, 0);
+    steps[9] = 4;
+    c = mixer_clean_answer(p, indices, INDICES, node_words, NODE_WORDS, steps, WORDS);
+    ACCEPTED(c.status);
+    CHECK(!c.clean);
+    steps[9] = 99;
+    c = mixer_clean_answer(p, indices, INDICES, node_words, NODE_WORDS, steps, WORDS);
+    REFUSED(c.status, MIXER_OUTSIDE_TABLE, 3);
+    CHECK(!c.clean);
+    steps[9] = 5;
 }
 
-static void folded(void)
+static mixer_count_reply all(mixer_plan p, uint32_t *counts, size_t counts_len, uint16_t *lists, size_t lists_len)
 {
-    const mixer_fold_gains gains = {0.5, 0.25, 0.5, 0.5, 0.5, 0.0}, over = {0.5, 0.5, 0.5, 0.5, 0.5, 17.0};
-    float area[7] = {7, 7, 7, 7, 7, 7, 7};
-    mixer_gains_reply g = mixer_balance_gains(0.5);
-    mixer_stereo_reply s = mixer_stereo_matrix(0.5, 0.5);
+    return mixer_all_sources(p, indices, INDICES, node_words, NODE_WORDS, steps, WORDS, counts, counts_len, lists, lists_len);
+}
+
+static void all_traced(mixer_plan p)
+{
+    static uint32_t counts[ROOM] = {7, 7, 7};
+    static uint16_t lists[ROOM + 1];
+    mixer_count_reply r;
+    lists[0] = lists[258] = lists[LISTS] = 7;
+    r = all(p, counts, SLOTS, lists, LISTS - 1);
+    REFUSED(r.status, MIXER_SHORT_AREA, 0);
+    CHECK(r.count == 0 && counts[0] == 7 && counts[1] == 7 && lists[256] == 0);
+    REFUSED(all(p, counts, SLOTS - 1, lists, LISTS).status, MIXER_SHORT_AREA, 0);
+    r = all(p, counts, SLOTS, lists, LISTS);
+    ACCEPTED(r.status);
+    CHECK(r.count == SLOTS && counts[0] == 0 && counts[1] == 2 && counts[2] == 7);
+    CHECK(lists[0] == 7 && lists[256] == 9 && lists[257] == 255 && lists[258] == 7 && lists[LISTS] == 7);
+}
+
+static void formats(void)
+{
     CHECK(mixer_format_channels(MIXER_SURROUND_514) == 10 && mixer_format_channels(7) == 0);
     CHECK(mixer_format_label(MIXER_LCR, 2) == MIXER_C && mixer_format_label(MIXER_LCR, 3) == MIXER_NO_LABEL);
-    CHECK(mixer_format_index(MIXER_LCR, MIXER_C) == 2 && mixer_format_index(MIXER_STEREO, MIXER_C) == 2);
-    CHECK(mixer_format_has(MIXER_LCR, MIXER_C) && !mixer_format_has(MIXER_STEREO, MIXER_C));
+    CHECK(mixer_format_index(MIXER_LCR, MIXER_C) == 2 && mixer_format_index(MIXER_SURROUND_51, MIXER_RS) == 5);
+    CHECK(mixer_format_has(MIXER_LCR, MIXER_C) && !mixer_format_has(MIXER_STEREO, MIXER_C) && mixer_format_has(MIXER_STEREO, MIXER_R));
+    CHECK(!mixer_format_has(MIXER_R, MIXER_MONO) && mixer_format_has(MIXER_MONO, MIXER_M) && !mixer_format_has(MIXER_MONO, MIXER_R));
+    CHECK(mixer_to_f32(1.0 + 0x1p-24) == 1.0f && mixer_to_f32(1e39) == INFINITY && isnan(mixer_to_f32(NAN)));
+}
+
+static void balanced(void)
+{
+    static const float at_half[] = {0.5f, 1, 1, 1, 0.5f, 1, 7};
+    float area[7] = {7, 7, 7, 7, 7, 7, 7};
+    mixer_gains_reply g = mixer_balance_gains(0.5);
+    mixer_stereo_reply s = mixer_stereo_matrix(0.5, 0.25);
     ACCEPTED(g.status);
     CHECK(g.left == 0.5 && g.right == 1.0);
     g = mixer_balance_gains(INFINITY);
     REFUSED(g.status, MIXER_OUT_OF_RANGE, 0);
     CHECK(g.left == 0.0 && g.right == 0.0);
     ACCEPTED(s.status);
-    CHECK(s.left_from_left == 0.375 && s.left_from_right == 0.125 && s.right_from_left == 0.25 && s.right_from_right == 0.75);
-    REFUSED(mixer_stereo_matrix(2.5, 0.0).status, MIXER_OUT_OF_RANGE, 0);
-    ACCEPTED(mixer_balance_of(MIXER_SURROUND_51, 0.5, area, 7));
-    CHECK(area[0] == 0.5f && area[1] == 1 && area[3] == 1 && area[4] == 0.5f && area[6] == 7);
+    CHECK(s.left_from_left == 0.5625 && s.left_from_right == 0.1875 && s.right_from_left == 0.25 && s.right_from_right == 0.75);
+    s = mixer_stereo_matrix(2.5, 0.0);
+    REFUSED(s.status, MIXER_OUT_OF_RANGE, 0);
+    CHECK(s.left_from_left == 0.0 && s.left_from_right == 0.0 && s.right_from_left == 0.0 && s.right_from_right == 0.0);
     REFUSED(mixer_balance_of(MIXER_SURROUND_51, 0.5, area, 5), MIXER_SHORT_AREA, 0);
-    ACCEPTED(mixer_width_matrix(MIXER_MONO, MIXER_STEREO, gains, false, area, 7));
-    CHECK(area[0] == 0.5f && area[1] == 0.25f);
-    ACCEPTED(mixer_width_matrix(MIXER_SURROUND_51, MIXER_MONO, gains, true, area, 7));
-    CHECK(area[0] == 0.25f && area[2] == 0.25f && area[3] == 0 && area[5] == 0.125f);
-    REFUSED(mixer_width_matrix(MIXER_MONO, MIXER_STEREO, over, false, area, 7), MIXER_OUT_OF_RANGE, 0);
-    REFUSED(mixer_width_matrix(MIXER_MONO, 7, gains, false, area, 7), MIXER_NO_FORMAT, 0);
-    CHECK(mixer_to_f32(1.0 + 0x1p-24) == 1.0f && mixer_to_f32(1e39) == INFINITY && isnan(mixer_to_f32(NAN)));
+    CHECK(area[0] == 7);
+    ACCEPTED(mixer_balance_of(MIXER_SURROUND_51, 0.5, area, 6));
+    CHECK(memcmp(area, at_half, sizeof area) == 0);
+}
+
+static void folded(void)
+{
+    const mixer_fold_gains gains = {.pan_left = 0.75, .pan_right = 0.25, .mono_sum = 0.625, .centre = 0.5, .surround = 0.375, .lfe = 0.125};
+    static const float to_stereo[] = {1, 0, 0.5f, 0.125f, 0.375f, 0, 0, 1, 0.5f, 0.125f, 0, 0.375f, 7};
+    mixer_fold_gains over = gains;
+    float area[13] = {7, 7, 7, 7, 7, 7, 7, 7, 7, 7, 7, 7, 7};
+    size_t i;
+    over.lfe = 17.0;
+    REFUSED(mixer_width_matrix(MIXER_SURROUND_51, MIXER_STEREO, over, false, area, 12), MIXER_OUT_OF_RANGE, 0);
+    REFUSED(mixer_width_matrix(MIXER_SURROUND_51, 7, gains, false, area, 12), MIXER_NO_FORMAT, 0);
+    REFUSED(mixer_width_matrix(MIXER_SURROUND_51, MIXER_STEREO, gains, false, area, 11), MIXER_SHORT_AREA, 0);
+    CHECK(area[0] == 7);
+    ACCEPTED(mixer_width_matrix(MIXER_SURROUND_51, MIXER_STEREO, gains, false, area, 12));
+    CHECK(memcmp(area, to_stereo, sizeof area) == 0);
+    ACCEPTED(mixer_width_matrix(MIXER_SURROUND_51, MIXER_STEREO, gains, true, area, 12));
+    for (i = 0; i < 12; i++) {
+        CHECK(area[i] == to_stereo[i] / 2);
+    }
+    ACCEPTED(mixer_width_matrix(MIXER_MONO, MIXER_STEREO, gains, false, area, 2));
+    CHECK(area[0] == 0.75f && area[1] == 0.25f);
+    ACCEPTED(mixer_width_matrix(MIXER_STEREO, MIXER_MONO, gains, false, area, 2));
+    CHECK(area[0] == 0.625f && area[1] == 0.625f);
 }
 
 int main(void)
 {
-    mixer_plan p = built(tables());
-    used(p);
+    mixer_plan p = with_buffers();
+    spans(p);
+    p = with_steps(with_nodes(with_coefficients(p)));
+    checked(p);
+    set(p);
+    adopted(p);
+    ran(p);
+    looked_up();
     traced(p);
+    all_traced(p);
+    formats();
+    balanced();
     folded();
     return failures != 0;
 }
