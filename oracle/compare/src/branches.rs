@@ -33,6 +33,10 @@ pub const REFUSALS: &[(Kind, &[u32])] = &[
 const LONG_BLOCK: &str = "a block of 1,024 samples";
 const LONG_DIRECTORY: &str = "a directory of 512 entries";
 
+/// Refused with 12 for their form alone.
+pub const MANY_ENTRIES: &str = "refused, a directory of 513 entries";
+pub const FIVE_WORDS: &str = "refused, a directory of five words";
+
 /// What one plan reaches at once.
 pub const LIMITS: &[&str] = &[
     "a plan of 256 buffers",
@@ -41,6 +45,8 @@ pub const LIMITS: &[&str] = &[
     "a plan of 64 nodes",
     "a plan of 512 steps",
     "all lists of 32 slots",
+    MANY_ENTRIES,
+    FIVE_WORDS,
 ];
 
 /// How often a branch is to be reached, where it may be reached often.

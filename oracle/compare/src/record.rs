@@ -118,7 +118,8 @@ impl Recorder {
         Some((c, h))
     }
 
-    /// The first plan of a seed that is at every limit, with a block of one sample: traced, set once and run once. Its builder calls take too much room.
+    /// The first plan of a seed that is at every limit, with a block of one sample: traced, set once, run once, and refused for two directories. Its
+    /// builder calls take too much room.
     fn largest(&mut self) {
         for seed in 1..=SEEDS {
             let mut g = Gen::new(seed);
@@ -132,6 +133,7 @@ impl Recorder {
             let (setting, input) = (g.setting(&h.layout), g.input_block(&h.layout));
             c.set(&mut h, &setting);
             c.run(&mut h, &input, 2);
+            recorded_refusals::directories(&mut c, &h, &input.samples);
             if LIMITS.iter().all(|name| c.reached.contains(name)) {
                 self.plans += 1;
                 return self.take(&c);

@@ -1,8 +1,10 @@
 //! Records of calls that document 01 refuses: one thing of a good call is spoilt at random. The areas that the call must leave are those that it was lent.
+use crate::branches::{FIVE_WORDS, MANY_ENTRIES};
 use crate::layouts::Gen;
 use crate::misbuilt;
 use crate::mixer::Status;
-use crate::paper::{self, Lent, MAX_RAMP};
+use crate::ops::Input;
+use crate::paper::{self, Lent, MAX_ENTRIES, MAX_RAMP};
 use crate::plan::{Areas, FLOATS, WORDS};
 use crate::recorded::{adoption_numbers, lent, run_areas, traced, Case, Held};
 use crate::refused::{off, off32, spoil, spoil_directory, spoil_node};
@@ -42,11 +44,29 @@ fn run(c: &mut Case, g: &mut Gen, h: &Held) {
         _ => drop(output.pop()),
     }
     let Err(status) = paper::run(&a, &input.directory, input.samples.len(), output.len()) else { return };
-    let mut areas = run_areas(&a, &input, &output);
-    areas.extend([bits(&a.floats), a.words.clone(), bits(&a.buffers), bits(&output)]);
+    refused_run(c, &a, &input, &output, status);
+}
+
+fn refused_run(c: &mut Case, a: &Areas, input: &Input, output: &[f32], status: Status) {
+    let mut areas = run_areas(a, input, output);
+    areas.extend([bits(&a.floats), a.words.clone(), bits(&a.buffers), bits(output)]);
     c.push(Kind::Process, status, areas, size(0).to_vec());
     if status.number == 12 {
-        c.directory(&input);
+        c.directory(input);
+    }
+}
+
+/// Runs of a good plan over these samples, with a directory of one entry too many and with one of five words. Without what is too much, both
+/// would be accepted.
+pub fn directories(c: &mut Case, h: &Held, samples: &[f32]) {
+    let entries: Vec<u32> = (0..=MAX_ENTRIES as u32).flat_map(|i| [i % 256, i / 256, 0, 1]).collect();
+    let output = vec![7.5; h.layout.output_channels() * h.layout.block];
+    for (name, good, len) in [(MANY_ENTRIES, 4 * MAX_ENTRIES, 4 * MAX_ENTRIES + 4), (FIVE_WORDS, 4, 5)] {
+        let input = Input { directory: entries[..len].to_vec(), samples: samples.to_vec() };
+        let run = |directory: &[u32]| paper::run(&h.areas, directory, samples.len(), output.len());
+        let (Ok(_), Err(status)) = (run(&entries[..good]), run(&input.directory)) else { return };
+        refused_run(c, &h.areas, &input, &output, status);
+        c.reached.push(name);
     }
 }
 
