@@ -53,18 +53,28 @@ fn measured(args: &[String], others: Option<Vec<Vec<Times>>>) -> Result<String, 
     t.verdict()
 }
 
+/// The most that a run may take of the reference's time. Where half of the nodes ramp, the steps of the others are at rest: their budget bounds both.
+fn budget(strips: usize, weights: Weights, nodes: Nodes, block: usize) -> f64 {
+    match (nodes, weights, block) {
+        (Nodes::Ramping, Weights::Full, _) => 0.40,
+        (Nodes::Ramping, Weights::Identity, _) => 0.48,
+        (_, _, 100) => 1.05,
+        (_, _, 1000) => 0.95,
+        (_, Weights::Identity, 256) => 0.97,
+        (_, Weights::Identity, _) => 0.95,
+        (_, Weights::Full, 1024) => 0.80,
+        (_, Weights::Full, _) => if strips < 32 { 0.85 } else { 0.80 },
+    }
+}
+
 fn blocks(t: &mut Table) -> Found {
     let plans = [("32x9 full", 32, 9, Weights::Full), ("32x9 identity", 32, 9, Weights::Identity), ("8x2 full", 8, 2, Weights::Full)];
+    let blocks = [48, 256, 1024];
     for (name, strips, buses, weights) in plans {
-        for (state, nodes) in [("rest", Nodes::Rest), ("ramping", Nodes::Ramping), ("half-ramping", Nodes::Half)] {
-            for block in [48, 256, 1024] {
-                // Where half of the nodes ramp, the steps of the others are at rest: their budget bounds both.
-                let most = match (nodes, block) {
-                    (Nodes::Ramping, _) => 0.6,
-                    (_, 48) => 1.25,
-                    _ => 1.0,
-                };
+        for (state, nodes, others) in [("rest", Nodes::Rest, &[100, 1000][..]), ("ramping", Nodes::Ramping, &[]), ("half-ramping", Nodes::Half, &[])] {
+            for block in blocks.iter().chain(others).copied() {
                 let layout = || desk(block, strips, buses, weights, Sends::All);
+                let most = budget(strips, weights, nodes, block);
                 t.line(&format!("process {name} {state} {block}"), 1.0, Some(most), || Desk::new(layout(), strips, nodes))?;
             }
         }
