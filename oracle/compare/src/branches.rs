@@ -33,6 +33,11 @@ pub const REFUSALS: &[(Kind, &[u32])] = &[
 const LONG_BLOCK: &str = "a block of 1,024 samples";
 const LONG_DIRECTORY: &str = "a directory of 512 entries";
 
+/// The passes over whole pieces of 16 samples with two sources at once.
+const TWO_COLUMNS: &str = "Matrix at rest, two columns, neither 0, a block of more than 16 samples";
+const TWO_AT_REST: &str = "Send at rest, two weights that are not 0, a block of more than 16 samples";
+const TWO_RAMPING: &str = "Send ramping, two weights that are not 0, a block of more than 16 samples";
+
 /// Refused with 12 for their form alone.
 pub const MANY_ENTRIES: &str = "refused, a directory of 513 entries";
 pub const FIVE_WORDS: &str = "refused, a directory of five words";
@@ -75,6 +80,7 @@ pub const BRANCHES: &[&str] = &[
     "Matrix at rest",
     "Matrix at rest, a gain of 0",
     "Matrix at rest, a gain of -0",
+    TWO_COLUMNS,
     "Matrix ramping",
     "Matrix, the ramp ends in the block",
     "Matrix, the ramp ends with the block",
@@ -90,6 +96,8 @@ pub const BRANCHES: &[&str] = &[
     "Send, the ramp ends with the block",
     "Send, a weight of 0",
     "Send, a weight of -0",
+    TWO_AT_REST,
+    TWO_RAMPING,
     "Send of nothing",
     "Send, more weights than it needs",
     "Clear",
@@ -219,6 +227,11 @@ impl Nodes<'_> {
         self.areas.words[WORDS * node as usize + 1]
     }
 
+    /// A row of two factors that are not 0, in a block with a whole piece.
+    fn pairs(&self, columns: u32, factors: &[f32]) -> bool {
+        columns == 2 && self.block > 16 && factors.chunks(2).any(|row| row.iter().all(|w| *w != 0.0))
+    }
+
     fn when(&mut self, holds: bool, name: &'static str) {
         if holds {
             self.seen.push(name);
@@ -255,6 +268,7 @@ impl Nodes<'_> {
                     let gains = self.target(node)[..(src.len * dst.len) as usize].to_vec();
                     let zeros = gains.iter().filter_map(|g| zero(*g, "Matrix at rest, a gain of 0", "Matrix at rest, a gain of -0"));
                     self.seen.extend(zeros);
+                    self.when(self.pairs(src.len, &gains), TWO_COLUMNS);
                 }
                 self.uses(node, MATRIX);
             }
@@ -265,7 +279,10 @@ impl Nodes<'_> {
                 self.when(need == 0, "Send of nothing");
                 self.when(weights.len > need, "Send, more weights than it needs");
                 self.seen.extend(used.iter().filter_map(|w| zero(*w, "Send, a weight of 0", "Send, a weight of -0")));
-                if self.rests(node) {
+                let (two, rests) = (self.pairs(src.len, used), self.rests(node));
+                self.when(two && rests && self.target(node)[0] != 0.0, TWO_AT_REST);
+                self.when(two && !rests, TWO_RAMPING);
+                if rests {
                     self.seen.extend(zero(self.target(node)[0], "Send at rest at 0", "Send at rest at -0"));
                 }
                 self.uses(node, SEND);
