@@ -126,7 +126,8 @@ impl Node {
         self
     }
 
-    // Gain i, also past len. Requires a place of the rows.
+    // Gain i, also past len, as `Gain::of` has it: left is asked first, so that of a node at rest cur and step are not read. Requires a place of the
+    // rows.
     pub fn gain(self, i: usize) -> Gain
         requires { ⌜ i < maxValues ⌝ }
         ensures { λ r. ⌜ r ≡ gainOf self i ⌝ }
