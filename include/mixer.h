@@ -20,7 +20,7 @@
  *   rounding bits differ; with exceptions unmasked mixer_balance_gains(0.3) can end the program (tests/floats.c);
  * - the thread has stack left for the call: mixer_width_matrix uses at most 24 KB, mixer_output_sources and mixer_all_sources at most 10 KB, every
  *   other call at most 2 KB, the arguments included (tests/stack.c). The library calls memcpy and memset: where the linker looks these up at their
- *   first call, some 3 KB come on top once.
+ *   first call, more comes on top once (some 3 KB where it was measured).
  */
 #ifndef MIXER_H
 #define MIXER_H
@@ -233,9 +233,8 @@ typedef struct {
     bool clean;
 } mixer_clean_reply;
 
-/* The inputs behind a slot, ascending, to `list`, whatever the gains are; 256 places are always enough. Each call checks the plan again: for the
- * lists of all slots mixer_all_sources is the call, in less than a fifth of the Rust mixer's time. Slot by slot, at 32 slots, they take up to twice
- * the Rust mixer's time (README.md has the figures). Refused: as the plan check, then 15, 2. */
+/* The inputs behind a slot, ascending, to `list`, whatever the gains are; 256 places are always enough. Each call checks and walks the plan again: for the
+ * lists of all slots use mixer_all_sources, which does so once. Refused: as the plan check, then 15, 2. */
 mixer_count_reply mixer_output_sources(mixer_plan plan, uint32_t slot, const uint32_t *indices, size_t indices_len,
                                        const uint32_t *node_words, size_t node_words_len, const uint32_t *steps, size_t steps_len,
                                        uint16_t *list, size_t list_len);

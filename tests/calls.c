@@ -1,6 +1,6 @@
 /* Calls each function that include/mixer.h declares, once accepted and once refused where it can be, and looks at the reply and at the areas.
- * A proof cannot see a field or a parameter of the header that stands in another's place. So no two counts, gains or numbers of a record or a
- * call are alike here, fields are named where a record is made, and each area is lent just as long as the call needs it, no two equally long. */
+ * A proof cannot see a field or a parameter of the header that stands in another's place. So the fields of a struct and the parameters of one type
+ * in a call differ here in some call, fields are named where a record is made, and areas are lent in different lengths. */
 #include <math.h>
 #include <string.h>
 

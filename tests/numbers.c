@@ -94,6 +94,7 @@ static void directories_at_limits(void)
     mixer_plan p = mixer_buffers(mixer_new(1).plan, 2, AREA(indices)).plan;
     ACCEPTED(run(MIXER_MAX_ENTRIES * MIXER_ENTRY_WORDS));
     REFUSED(run((MIXER_MAX_ENTRIES + 1) * MIXER_ENTRY_WORDS), MIXER_BAD_DIRECTORY, 0);
+    ACCEPTED(run(MIXER_ENTRY_WORDS));
     REFUSED(run(MIXER_ENTRY_WORDS + 1), MIXER_BAD_DIRECTORY, 0);
     CHECK(!mixer_directory_bad(directory, MIXER_MAX_ENTRIES * MIXER_ENTRY_WORDS, 0));
     CHECK(mixer_directory_bad(directory, (MIXER_MAX_ENTRIES + 1) * MIXER_ENTRY_WORDS, 0));

@@ -1,5 +1,5 @@
-/* How much of its thread's stack each call uses, against what include/mixer.h says. Each call runs on a painted stack, on the plans and formats that
- * lead it deepest, and what lost its paint is counted, the call's arguments and the frame of its caller included. Writes the bytes of each call. */
+/* How much of its thread's stack each call uses, against what include/mixer.h says. Each call runs on a painted stack, on plans with every map and on every
+ * format, and what lost its paint is counted, the call's arguments and the frame of its caller included. Writes the bytes of each call. */
 #define _POSIX_C_SOURCE 200809L
 #include <pthread.h>
 #include <stdlib.h>
@@ -59,7 +59,8 @@ static void step(const uint32_t *record, size_t len)
     plan = r.plan;
 }
 
-/* Every map, and an Output for each slot; node i has 24 values. */
+/* Every map, and an Output for each slot; a node has 24 values. Neither the index list nor the ids ascend, so that the check looks at every pair of
+ * buffers and of ids. */
 static void build(void)
 {
     static const uint32_t patch[] = {MIXER_PATCH, 3, 0, 0}, clear[] = {MIXER_CLEAR, 1, 1}, gain[] = {MIXER_GAIN, 0, 0, 2, 2, 2};
@@ -67,8 +68,11 @@ static void build(void)
     uint32_t output_of[] = {MIXER_OUTPUT, 4, 2, 0}, i;
     plan = mixer_buffers(mixer_new(BLOCK).plan, BUFFERS, AREA(indices)).plan;
     plan = mixer_coefficients(plan, values, 4, AREA(coefficients)).plan;
+    for (i = 0; i < BUFFERS; i++) {
+        indices[i] = BUFFERS - 1 - i;
+    }
     for (i = 0; i < NODES; i++) {
-        plan = mixer_node(plan, i, AREA(values), 0, AREA(node_floats), AREA(node_words)).plan;
+        plan = mixer_node(plan, NODES - i, AREA(values), 0, AREA(node_floats), AREA(node_words)).plan;
     }
     step(patch, 4);
     step(clear, 3);
@@ -85,7 +89,6 @@ static void build(void)
 /* The jobs: a call, or a call in each of its turns. What they answer is looked at elsewhere; here that they were not refused. */
 
 static void job_new(void) { ACCEPTED(mixer_new(BLOCK).status); }
-static void job_buffers(void) { ACCEPTED(mixer_buffers(mixer_new(BLOCK).plan, BUFFERS, AREA(indices)).status); }
 static void job_finish(void) { ACCEPTED(mixer_finish(plan, AREA(buffers)).status); }
 static void job_balance_gains(void) { ACCEPTED(mixer_balance_gains(0.3).status); }
 static void job_stereo_matrix(void) { ACCEPTED(mixer_stereo_matrix(0.3, 0.3).status); }
@@ -94,6 +97,13 @@ static void job_directory_bad(void) { CHECK(!mixer_directory_bad(AREA(directory)
 static void job_lookup(void) { ACCEPTED(mixer_lookup(AREA(directory), AREA(samples), 3, 0, AREA(output)).status); }
 static void job_coefficients(void) { ACCEPTED(mixer_coefficients(mixer_new(BLOCK).plan, values, 4, AREA(coefficients)).status); }
 static void job_clean_answer(void) { ACCEPTED(mixer_clean_answer(plan, AREA(indices), AREA(node_words), AREA(steps)).status); }
+
+/* To an area of its own, so that the index list stays as it is. */
+static void job_buffers(void)
+{
+    static uint32_t own[BUFFERS];
+    ACCEPTED(mixer_buffers(mixer_new(BLOCK).plan, BUFFERS, AREA(own)).status);
+}
 
 static void job_spans(void)
 {
@@ -132,7 +142,7 @@ static void set_all(uint32_t ramp)
 {
     uint32_t i;
     for (i = 0; i < NODES; i++) {
-        ACCEPTED(mixer_set_param(plan, i, AREA(values), ramp, AREA(node_floats), AREA(node_words)));
+        ACCEPTED(mixer_set_param(plan, NODES - i, AREA(values), ramp, AREA(node_floats), AREA(node_words)));
     }
 }
 
