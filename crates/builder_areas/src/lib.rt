@@ -1,4 +1,4 @@
-// The stores of the builder calls: each writes a run of an area and leaves the rest.
+// The stores of `buffers`, `step` and `finish`: each writes a run of an area and leaves the rest.
 // All of it is for the crates above and not the interface: a function that has a `requires` says in its comment what it takes.
 ghost use mathlib.Core.Path.{_≡_};
 ghost use Prim.Native.Nat.{_+_, _≤_};

@@ -1,4 +1,4 @@
-// The steps' loops over the buffers of one area. Ports those of `Plan::process` in src/engine/plan.rs.
+// The loops of Patch, Gain, Send, Clear and Output over the buffers of one area; crate `mix_matrix` has Matrix. Ports those of `Plan::process` in src/engine/plan.rs.
 // All of it is for the crates above and not the interface: a function that has a `requires` says in its comment what it takes.
 mod buffers;
 mod gains;

@@ -1,4 +1,4 @@
-// A gain at a sample, and the loops over the samples of a buffer, piece by piece.
+// The loops over the samples of a buffer, piece by piece: one or two buffers into another.
 // All of it is for the crates above and not the interface: a function that has a `requires` says in its comment what it takes.
 mod pieces;
 mod samples;

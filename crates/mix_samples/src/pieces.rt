@@ -1,4 +1,4 @@
-// One buffer into another, in whole pieces and a last one: the source's part is handed on to the loop, and the destination's samples go
+// One or two buffers into another, in whole pieces and a last one: the source's part is handed on to the loop, and the destination's samples go
 // through a local, since two parts of one area cannot be lent at once.
 use crate::samples::PIECE;
 use crate::samples::add_samples;
