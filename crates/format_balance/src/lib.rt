@@ -83,7 +83,9 @@ pub fn balance_gains(b: f64) -> Gains
     if !finite(b) {
         return Gains::Refused(Refusal::of(Refusal::OUT_OF_RANGE));
     }
-    Gains::Pair(left_gain(b), right_gain(b))
+    let gl = left_gain(b);
+    let gr = right_gain(b);
+    Gains::Pair(gl, gr)
 }
 
 fn of_side(l: f32, r: f32, side: u32) -> f32
