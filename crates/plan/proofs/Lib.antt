@@ -10,6 +10,8 @@ pub mod Plans
 pub mod Steps
 -- the buffers that a span names
 pub mod Spans
+-- the input, the node, the slot and the channels of a step that is inside its tables
+pub mod Named
 -- one law for each way out of the check
 pub mod Answers
 -- the channels that the steps append to the output, counted step by step

@@ -1,7 +1,8 @@
 -- A step with its spans resolved to the buffers and the weights that they name: what a run, a trace and the clean answer go over.
 -- Definitions only.
-use Prim.Native.Nat.{ℕ}
-use mathlib.Core.List.{List, map}
+use Prim.Native.Nat.{ℕ, suc}
+use mathlib.Core.List.{List, [], _∷_, map}
+use lib.ListN.{length}
 use lib.Ieee.{Float}
 use Rattle.lists.specs.Parts.{part}
 use Rattle.plan.specs.declared.Plan.{Plan}
@@ -18,7 +19,8 @@ pub data Resolved : Type 0 where
   send : (node : ℕ) (src dst : List ℕ) (weights : List Float) → Resolved
   output : (src : List ℕ) (slot : ℕ) → Resolved
 
-module _ (indices : List ℕ) (coefficients : List Float) where
+-- the record is given too: what a kind of step names may lie where the record says
+module _ (p : Plan) (indices : List ℕ) (coefficients : List Float) where
   abbrev pub resolved : Step → Resolved
   resolved (Patch i c d) = patch i c d
   resolved (Gain n s d) = gain n (named indices s) (named indices d)
@@ -29,4 +31,42 @@ module _ (indices : List ℕ) (coefficients : List Float) where
 
 -- the steps of a plan, in order
 abbrev pub resolvedSteps : Plan → List ℕ → List Float → List ℕ → List Resolved
-resolvedSteps p indices coefficients steps = map (resolved indices coefficients) (stepsOf p steps)
+resolvedSteps p indices coefficients steps = map (resolved p indices coefficients) (stepsOf p steps)
+
+-- ---- what a step has, one clause for each kind: a definition over lists of steps that asks for one of these goes through it
+
+-- the input that it names, if any
+abbrev pub inputNamed : Resolved → List ℕ
+inputNamed (patch i c d) = i ∷ []
+inputNamed (gain n src dst) = []
+inputNamed (matrix n src dst) = []
+inputNamed (clear dst) = []
+inputNamed (send n src dst weights) = []
+inputNamed (output src slot) = []
+
+-- the node that it names, if any
+abbrev pub nodeNamed : Resolved → List ℕ
+nodeNamed (patch i c d) = []
+nodeNamed (gain n src dst) = n ∷ []
+nodeNamed (matrix n src dst) = n ∷ []
+nodeNamed (clear dst) = []
+nodeNamed (send n src dst weights) = n ∷ []
+nodeNamed (output src slot) = []
+
+-- the channels that it appends to the output
+abbrev pub channelsOut : Resolved → ℕ
+channelsOut (patch i c d) = 0
+channelsOut (gain n src dst) = 0
+channelsOut (matrix n src dst) = 0
+channelsOut (clear dst) = 0
+channelsOut (send n src dst weights) = 0
+channelsOut (output src slot) = length src
+
+-- how many slots there are up to the one that it names
+abbrev pub slotNamed : Resolved → ℕ
+slotNamed (patch i c d) = 0
+slotNamed (gain n src dst) = 0
+slotNamed (matrix n src dst) = 0
+slotNamed (clear dst) = 0
+slotNamed (send n src dst weights) = 0
+slotNamed (output src slot) = suc slot

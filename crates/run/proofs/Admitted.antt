@@ -3,7 +3,6 @@ use mathlib.Core.Path.{_≡_, refl, sym, _∙_}
 use mathlib.Core.Bool.{true, false}
 use mathlib.Core.List.{List, [], _∷_, map}
 use Prim.Native.Nat.{ℕ, _*_, _≤_, _<_}
-use native.Mathlib.Omega.{arith}
 use lib.ListN.{length, take}
 use lib.Dec.{ltb}
 use borrow.Author.Tests.{ltb-false, lt-ltb, le-ltb}
@@ -16,16 +15,15 @@ use Rattle.refusal.proofs.Laws.{first-append, none-rest, accepted-none, refused
 use Rattle.node.specs.Areas.{someBad}
 use Rattle.plan.specs.declared.Plan.{Plan}
 use Rattle.plan.specs.declared.Step.{Step}
-use Rattle.plan.specs.declared.Step.the-variants.{Patch, Gain, Matrix, Clear, Send, Output}
 use Rattle.plan.specs.Limits.{maxBlock, unitLimits}
 use Rattle.plan.specs.Words.{decoded}
 use Rattle.plan.specs.Areas.{Areas, areas, shortAreas}
 use Rattle.plan.specs.Check.{idTwice, planTests, checked, checkPlan}
 use Rattle.plan.specs.Resolved.{resolved}
-use Rattle.plan.specs.Sound.{stepsOf, IndexList, Passes, Within, Inside, Each}
+use Rattle.plan.specs.Sound.{stepsOf, IndexList, Passes, Inside, Each}
 use Rattle.plan.proofs.Plans.{block-none, WithinLimits, limits-none, Room, areas-none}
-use Rattle.plan.proofs.Spans.{length-named}
 use Rattle.plan.proofs.Passes.{none-passes, passes-all}
+use Rattle.plan.proofs.Named.{channels-named}
 use Rattle.plan.specs.Loops.{channelsOf}
 use Rattle.input.specs.Input.{directoryBad}
 use Rattle.run.specs.Run.{Given, State, outputChannels, stepsOfRun, admission}
@@ -57,17 +55,10 @@ tested p a e =
 
 -- ---- the channels of the steps, by their spans and by the buffers that those name
 channels-same : (p : Plan) (indices : List ℕ) (coefficients : List Float) → p .indices ≤ length indices → (ss : List Step) → Each (Inside p) ss
-    → outputChannels (map (resolved indices coefficients) ss) ≡ channelsOf ss
+    → outputChannels (map (resolved p indices coefficients) ss) ≡ channelsOf ss
 unfolding outputChannels channelsOf
 channels-same p indices coefficients r [] i = refl
-channels-same p indices coefficients r (Patch a c d ∷ ss) i = channels-same p indices coefficients r ss (i .1) ∙ omega arith
-channels-same p indices coefficients r (Gain n s d ∷ ss) i = channels-same p indices coefficients r ss (i .1) ∙ omega arith
-channels-same p indices coefficients r (Matrix n s d ∷ ss) i = channels-same p indices coefficients r ss (i .1) ∙ omega arith
-channels-same p indices coefficients r (Clear d ∷ ss) i = channels-same p indices coefficients r ss (i .1) ∙ omega arith
-channels-same p indices coefficients r (Send n s d c ∷ ss) i = channels-same p indices coefficients r ss (i .1) ∙ omega arith
-channels-same p indices coefficients r (Output s o ∷ ss) i =
-    let h : Within (length indices) s = omega (arith, i .0 .0) in
-    rw (length-named indices s h, channels-same p indices coefficients r ss (i .1))
+channels-same p indices coefficients r (x ∷ ss) i = rw (channels-named p indices coefficients r x (i .0), channels-same p indices coefficients r ss (i .1))
 
 -- ---- the answers
 module _ (g : Given) (s : State) where

@@ -1,5 +1,5 @@
 -- How many samples a step writes. Assumes nothing.
-use mathlib.Core.Path.{_≡_}
+use mathlib.Core.Path.{_≡_, _∙_, ap, refl}
 use mathlib.Core.List.{List}
 use Prim.Native.Nat.{ℕ, _+_, _*_, _≤_}
 use native.Mathlib.Nat.{zero-mul}
@@ -9,23 +9,28 @@ use lib.Ieee.{Float}
 use Rattle.plan.specs.declared.Plan.{Plan}
 use Rattle.plan.specs.declared.Span.{Span}
 use Rattle.plan.specs.declared.Step.{Step}
-use Rattle.plan.specs.declared.Step.the-variants.{Patch, Gain, Matrix, Clear, Send, Output}
-use Rattle.plan.specs.Resolved.{resolved}
+use Rattle.plan.specs.declared.Step.the-variants.{Output}
+use Rattle.plan.specs.Resolved.{resolved, Resolved, patch, gain, matrix, clear, send, output, channelsOut}
 use Rattle.plan.specs.Sound.{Inside}
-use Rattle.plan.proofs.Spans.{length-named}
 use Rattle.plan.specs.Loops.{channels}
+use Rattle.plan.proofs.Named.{channels-named}
 use Rattle.run.specs.Run.{State, stepped}
 
 pub output-room : {x : Step} (s : Span) (o block w n : ℕ) → x ≡ Output s o → w + channels x * block ≤ n → w + s .len * block ≤ n
 output-room s o block w n e h = rw e at h
 
 -- what a step adds to the samples written
-pub wrote-more : (p : Plan) (indices : List ℕ) (coefficients : List Float) (block : ℕ) (input : ℕ → ℕ → List Float) (x : Step) (s : State)
-    → p .indices ≤ length indices → Inside p x → stepped block input (resolved indices coefficients x) s .wrote ≡ s .wrote + channels x * block
+pub wrote-out : (block : ℕ) (input : ℕ → ℕ → List Float) (x : Resolved) (s : State) → stepped block input x s .wrote ≡ s .wrote + channelsOut x * block
 unfolding stepped
-wrote-more p indices coefficients block input (Patch i c d) s r h = rw zero-mul (omega arith)
-wrote-more p indices coefficients block input (Gain n a d) s r h = rw zero-mul (omega arith)
-wrote-more p indices coefficients block input (Matrix n a d) s r h = rw zero-mul (omega arith)
-wrote-more p indices coefficients block input (Clear d) s r h = rw zero-mul (omega arith)
-wrote-more p indices coefficients block input (Send n a d c) s r h = rw zero-mul (omega arith)
-wrote-more p indices coefficients block input (Output a o) s r h = rw (length-named indices a (omega (arith, h .0)))
+wrote-out block input (patch i c d) s = rw zero-mul (omega arith)
+wrote-out block input (gain n src dst) s = rw zero-mul (omega arith)
+wrote-out block input (matrix n src dst) s = rw zero-mul (omega arith)
+wrote-out block input (clear dst) s = rw zero-mul (omega arith)
+wrote-out block input (send n src dst weights) s = rw zero-mul (omega arith)
+wrote-out block input (output src slot) s = refl
+
+pub wrote-more : (p : Plan) (indices : List ℕ) (coefficients : List Float) (block : ℕ) (input : ℕ → ℕ → List Float) (x : Step) (s : State)
+    → p .indices ≤ length indices → Inside p x → stepped block input (resolved p indices coefficients x) s .wrote ≡ s .wrote + channels x * block
+wrote-more p indices coefficients block input x s r h =
+    wrote-out block input (resolved p indices coefficients x) s
+    ∙ ap (λ (c : ℕ). s .wrote + c * block) (channels-named p indices coefficients r x h)

@@ -15,6 +15,7 @@ use Rattle.refusal.specs.Tests.{outcome}
 use Rattle.refusal.specs.declared.Refusal.{Refusal}
 use Rattle.refusal.specs.declared.Answer.{Answer}
 use Rattle.refusal.specs.declared.Answer.the-variants.{Accepted, Refused}
+use Rattle.lists.specs.Entries.{times}
 use Rattle.node.specs.declared.Node.{Node}
 use Rattle.node.specs.Sizes.{nodeWords}
 use Rattle.node.specs.Nodes.{setNode, finishBlock}
@@ -23,13 +24,14 @@ use Rattle.node.proofs.Kept.{id-set, id-finish}
 use Rattle.node.proofs.Left.{left-set, left-finish}
 use Rattle.node.proofs.Areas.{id-stored, left-stored, word-other, length-stored-words}
 use Rattle.plan.proofs.Accepted.{accepted-room}
-use Rattle.plan.specs.Resolved.{Resolved, patch, gain, matrix, clear, send, output}
+use Rattle.plan.specs.Resolved.{Resolved, nodeNamed}
 use Rattle.input.specs.Input.{lookup}
 use Rattle.setting.specs.Setting.{nodeOf, settingWords}
 use Rattle.setting.proofs.Setting.{node-named, node-only, settable, words-accepted, words-refused}
 use Rattle.run.specs.Run.{Given, State, stepped, runSteps, finished, admission, processed}
 use Rattle.run.specs.Calls.{Fixed, Held, Call, set, run, givenTo, start, answer, after, afterAll, runs, NotSet, stepsOfPlan, uses}
 use Rattle.run.proofs.Answers.{accepted-runs, refused-keeps}
+use Rattle.run.proofs.States.{ends, step-nodes}
 use Rattle.run.proofs.Admitted.{areas-of, admitted}
 
 -- node n of the words: its id is i, and r samples are left
@@ -84,25 +86,21 @@ module _ (block n : ℕ) where
           rw (eq-eqb m n e, one-mul) (subst (λ (k : ℕ). Left n i (r - block) (finished block k s .words)) (sym e) (own-left i r s h))
       go (no e) = rw (ne-eqb m n e, zero-mul, sub-zero) (stored-apart n i r m (s .words) (finishBlock (nodeAt (s .floats) (s .words) m) block) h e)
 
+  ends-left : (ns : List ℕ) (i r : ℕ) (s : State) → Left n i r (s .words) → Left n i (r - times n ns * block) (ends block ns s .words)
+  ends-left [] i r s h = rw (zero-mul, sub-zero) h
+  ends-left (m ∷ ns) i r s h =
+      subst (λ (k : ℕ). Left n i k (ends block ns (finished block m s) .words)) (less r (cond (eqb m n) 1 0) (times n ns) block)
+      (ends-left ns i (r - cond (eqb m n) 1 0 * block) (finished block m s) (finish-left m i r s h))
+
   pub steps-left : (input : ℕ → ℕ → List Float) (xs : List Resolved) (i r : ℕ) (s : State) → Left n i r (s .words)
       → Left n i (r - uses n xs * block) (runSteps block input xs s .words)
-  unfolding runSteps stepped uses
+  unfolding runSteps uses
   steps-left input [] i r s h = rw (zero-mul, sub-zero) h
-  steps-left input (patch j c d ∷ xs) i r s h = steps-left input xs i r (stepped block input (patch j c d) s) h
-  steps-left input (gain m src dst ∷ xs) i r s h =
-      let t = stepped block input (gain m src dst) s in
-      subst (λ (k : ℕ). Left n i k (runSteps block input xs t .words)) (less r (cond (eqb m n) 1 0) (uses n xs) block)
-      (steps-left input xs i (r - cond (eqb m n) 1 0 * block) t (finish-left m i r s h))
-  steps-left input (matrix m src dst ∷ xs) i r s h =
-      let t = stepped block input (matrix m src dst) s in
-      subst (λ (k : ℕ). Left n i k (runSteps block input xs t .words)) (less r (cond (eqb m n) 1 0) (uses n xs) block)
-      (steps-left input xs i (r - cond (eqb m n) 1 0 * block) t (finish-left m i r s h))
-  steps-left input (clear dst ∷ xs) i r s h = steps-left input xs i r (stepped block input (clear dst) s) h
-  steps-left input (send m src dst weights ∷ xs) i r s h =
-      let t = stepped block input (send m src dst weights) s in
-      subst (λ (k : ℕ). Left n i k (runSteps block input xs t .words)) (less r (cond (eqb m n) 1 0) (uses n xs) block)
-      (steps-left input xs i (r - cond (eqb m n) 1 0 * block) t (finish-left m i r s h))
-  steps-left input (output src slot ∷ xs) i r s h = steps-left input xs i r (stepped block input (output src slot) s) h
+  steps-left input (x ∷ xs) i r s h =
+      let t = stepped block input x s in
+      let e = ends-left (nodeNamed x) i r s h in
+      subst (λ (k : ℕ). Left n i k (runSteps block input xs t .words)) (less r (times n (nodeNamed x)) (uses n xs) block)
+      (steps-left input xs i (r - times n (nodeNamed x) * block) t (subst (λ (w : List ℕ). Left n i (r - times n (nodeNamed x) * block) w) (sym (step-nodes block input x s .words)) e))
 
 -- ---- a list of calls
 

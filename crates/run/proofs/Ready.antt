@@ -21,7 +21,6 @@ use Rattle.node.proofs.Areas.{length-stored-floats, length-stored-words}
 use Rattle.node.proofs.Bad.{in-range-set}
 use Rattle.plan.specs.declared.Plan.{Plan}
 use Rattle.plan.specs.declared.Step.{Step}
-use Rattle.plan.specs.declared.Step.the-variants.{Patch, Gain, Matrix, Clear, Send, Output}
 use Rattle.plan.specs.Sound.{Inside, Each, stepsOf}
 use Rattle.plan.specs.Resolved.{resolved}
 use Rattle.plan.proofs.Exact.{accepted-sound}
@@ -29,6 +28,7 @@ use Rattle.plan.specs.Areas.{Areas, areas, shortAreas}
 use Rattle.plan.specs.Check.{planTests, checked, checkPlan}
 use Rattle.plan.proofs.Accepted.{accepted-room}
 use Rattle.plan.proofs.Front.{check-front}
+use Rattle.plan.proofs.Named.{node-inside}
 use Rattle.input.specs.Input.{lookup, directoryBad}
 use Rattle.setting.specs.Setting.{nodeOf}
 use Rattle.setting.proofs.Setting.{Settable, settable, node-named, floats-accepted, floats-refused, words-accepted, words-refused, node-good}
@@ -156,14 +156,9 @@ ready-only f h r directory samples out =
     ∙ ap (λ (b : Bool). first (test badNode b ∷ others) Accepted) (r .nodes)
 
 -- the nodes that an accepted plan's steps use are among its nodes
-pub below : (p : Plan) (indices : List ℕ) (coefficients : List Float) (ss : List Step) → Each (Inside p) ss → NodesBelow (p .nodes) (map (resolved indices coefficients) ss)
+pub below : (p : Plan) (indices : List ℕ) (coefficients : List Float) (ss : List Step) → Each (Inside p) ss → NodesBelow (p .nodes) (map (resolved p indices coefficients) ss)
 below p indices coefficients [] o = tt
-below p indices coefficients (Patch i c d ∷ ss) o = below p indices coefficients ss (o .1)
-below p indices coefficients (Gain n s d ∷ ss) o = (o .0 .0, below p indices coefficients ss (o .1))
-below p indices coefficients (Matrix n s d ∷ ss) o = (o .0 .0, below p indices coefficients ss (o .1))
-below p indices coefficients (Clear d ∷ ss) o = below p indices coefficients ss (o .1)
-below p indices coefficients (Send n s d c ∷ ss) o = (o .0 .0, below p indices coefficients ss (o .1))
-below p indices coefficients (Output s o′ ∷ ss) o = below p indices coefficients ss (o .1)
+below p indices coefficients (x ∷ ss) o = (node-inside p indices coefficients x (o .0), below p indices coefficients ss (o .1))
 
 module _ (f : Fixed) where
   alike-ready : (h t : Held) → Ready f h → Alike f h t → someBad (t .words) (f .plan .nodes) ≡ false → Ready f t

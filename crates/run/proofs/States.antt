@@ -1,6 +1,6 @@
 -- What a run does to the nodes: it keeps their number, ids and lens, leaves none bad that was not, keeps the length of every area, and does not
 -- depend on any sample. Assumes nothing.
-use mathlib.Core.Path.{_≡_, refl, _∙_}
+use mathlib.Core.Path.{_≡_, refl, sym, _∙_, subst}
 use mathlib.Core.Bool.{false}
 use mathlib.Core.List.{List, [], _∷_}
 use Prim.Native.Nat.{ℕ, _+_, _*_, _<_, _≤_}
@@ -9,6 +9,7 @@ use native.Mathlib.Decide.{ℕ-discrete}
 use native.Mathlib.Omega.{arith}
 use lib.ListN.{length}
 use lib.Ieee.{Float}
+use Rattle.lists.specs.Entries.{AllBelow}
 use Rattle.node.specs.declared.Node.{Node}
 use Rattle.node.specs.Sizes.{nodeWords}
 use Rattle.node.specs.Nodes.{finishBlock}
@@ -18,7 +19,7 @@ use Rattle.node.proofs.Areas.{id-stored, word-other, length-stored-floats, leng
 use Rattle.node.proofs.Bad.{in-range-finish, none-bad-at, none-bad-stored}
 use Rattle.mix.proofs.Put.{length-put}
 use Rattle.mix.proofs.Laws.{length-gained, length-rows, length-sends, length-cleared, length-appended}
-use Rattle.plan.specs.Resolved.{Resolved, patch, gain, matrix, clear, send, output}
+use Rattle.plan.specs.Resolved.{Resolved, patch, gain, matrix, clear, send, output, nodeNamed}
 use Rattle.run.specs.Run.{State, stepped, runSteps, finished}
 
 -- ---- the nodes do not depend on the samples, the buffers or the output
@@ -29,30 +30,40 @@ pub record SameNodes (s t : State) : Type 0 where
   pub words : s .words ≡ t .words
 
 module _ (block : ℕ) where
+  -- the end of the block of each node of a list
+  abbrev pub ends : List ℕ → State → State
+  ends [] s = s
+  ends (n ∷ ns) s = ends ns (finished block n s)
+
+  -- a step changes the nodes by the end of the block of the node that it names, if any
+  pub step-nodes : (input : ℕ → ℕ → List Float) (x : Resolved) (s : State) → SameNodes (stepped block input x s) (ends (nodeNamed x) s)
+  unfolding stepped
+  step-nodes input (patch i c d) s = record { floats = refl; words = refl }
+  step-nodes input (gain n src dst) s = record { floats = refl; words = refl }
+  step-nodes input (matrix n src dst) s = record { floats = refl; words = refl }
+  step-nodes input (clear dst) s = record { floats = refl; words = refl }
+  step-nodes input (send n src dst weights) s = record { floats = refl; words = refl }
+  step-nodes input (output src slot) s = record { floats = refl; words = refl }
+
   finished-same : (n : ℕ) (s t : State) → SameNodes s t → SameNodes (finished block n s) (finished block n t)
   finished-same n s t e =
       let same : nodeAt (s .floats) (s .words) n ≡ nodeAt (t .floats) (t .words) n = cc (e .floats, e .words) in
       record { floats = cc (e .floats, same); words = cc (e .words, same) }
 
+  ends-same : (ns : List ℕ) (s t : State) → SameNodes s t → SameNodes (ends ns s) (ends ns t)
+  ends-same [] s t e = e
+  ends-same (n ∷ ns) s t e = ends-same ns (finished block n s) (finished block n t) (finished-same n s t e)
+
   pub nodes-same-run : (input input′ : ℕ → ℕ → List Float) (xs : List Resolved) (s t : State) → SameNodes s t
       → SameNodes (runSteps block input xs s) (runSteps block input′ xs t)
-  unfolding runSteps stepped
+  unfolding runSteps
   nodes-same-run input input′ [] s t e = e
-  nodes-same-run input input′ (patch i c d ∷ xs) s t e =
-      nodes-same-run input input′ xs (stepped block input (patch i c d) s) (stepped block input′ (patch i c d) t) (record { floats = e .floats; words = e .words })
-  nodes-same-run input input′ (gain n src dst ∷ xs) s t e =
-      let k = finished-same n s t e in
-      nodes-same-run input input′ xs (stepped block input (gain n src dst) s) (stepped block input′ (gain n src dst) t) (record { floats = k .floats; words = k .words })
-  nodes-same-run input input′ (matrix n src dst ∷ xs) s t e =
-      let k = finished-same n s t e in
-      nodes-same-run input input′ xs (stepped block input (matrix n src dst) s) (stepped block input′ (matrix n src dst) t) (record { floats = k .floats; words = k .words })
-  nodes-same-run input input′ (clear dst ∷ xs) s t e =
-      nodes-same-run input input′ xs (stepped block input (clear dst) s) (stepped block input′ (clear dst) t) (record { floats = e .floats; words = e .words })
-  nodes-same-run input input′ (send n src dst weights ∷ xs) s t e =
-      let k = finished-same n s t e in
-      nodes-same-run input input′ xs (stepped block input (send n src dst weights) s) (stepped block input′ (send n src dst weights) t) (record { floats = k .floats; words = k .words })
-  nodes-same-run input input′ (output src slot ∷ xs) s t e =
-      nodes-same-run input input′ xs (stepped block input (output src slot) s) (stepped block input′ (output src slot) t) (record { floats = e .floats; words = e .words })
+  nodes-same-run input input′ (x ∷ xs) s t e =
+      let a = step-nodes input x s in
+      let b = ends-same (nodeNamed x) s t e in
+      let c = step-nodes input′ x t in
+      nodes-same-run input input′ xs (stepped block input x s) (stepped block input′ x t)
+      (record { floats = a .floats ∙ b .floats ∙ sym (c .floats); words = a .words ∙ b .words ∙ sym (c .words) })
 
 -- ---- lengths
 
@@ -89,12 +100,7 @@ module _ (block : ℕ) where
 -- the nodes that the steps use are among the first count
 abbrev pub NodesBelow : ℕ → List Resolved → Type 0
 NodesBelow count [] = Unit {0}
-NodesBelow count (patch i c d ∷ xs) = NodesBelow count xs
-NodesBelow count (gain n src dst ∷ xs) = (n < count) × NodesBelow count xs
-NodesBelow count (matrix n src dst ∷ xs) = (n < count) × NodesBelow count xs
-NodesBelow count (clear dst ∷ xs) = NodesBelow count xs
-NodesBelow count (send n src dst weights ∷ xs) = (n < count) × NodesBelow count xs
-NodesBelow count (output src slot ∷ xs) = NodesBelow count xs
+NodesBelow count (x ∷ xs) = AllBelow count (nodeNamed x) × NodesBelow count xs
 
 -- the words of the first count nodes have these ids, and none of them is bad
 pub record Good (count : ℕ) (ids : ℕ → ℕ) (words : List ℕ) : Type 0 where
@@ -132,13 +138,14 @@ module _ (count : ℕ) (ids : ℕ → ℕ) where
         good-stored n (s .words) (finishBlock node block) g h (in-range-finish node block (none-bad-at (s .words) count (g .none-bad) (s .floats) n h))
         (id-finish node block ∙ g .ids-are n h)
 
+    pub good-ends : (ns : List ℕ) (s : State) → Good count ids (s .words) → AllBelow count ns → Good count ids (ends block ns s .words)
+    good-ends [] s g o = g
+    good-ends (n ∷ ns) s g o = good-ends ns (finished block n s) (good-finished n s g (o .0)) (o .1)
+
     pub good-run : (input : ℕ → ℕ → List Float) (xs : List Resolved) (s : State) → Good count ids (s .words) → NodesBelow count xs
         → Good count ids (runSteps block input xs s .words)
-    unfolding runSteps stepped
+    unfolding runSteps
     good-run input [] s g o = g
-    good-run input (patch i c d ∷ xs) s g o = good-run input xs (stepped block input (patch i c d) s) g o
-    good-run input (gain n src dst ∷ xs) s g o = good-run input xs (stepped block input (gain n src dst) s) (good-finished n s g (o .0)) (o .1)
-    good-run input (matrix n src dst ∷ xs) s g o = good-run input xs (stepped block input (matrix n src dst) s) (good-finished n s g (o .0)) (o .1)
-    good-run input (clear dst ∷ xs) s g o = good-run input xs (stepped block input (clear dst) s) g o
-    good-run input (send n src dst weights ∷ xs) s g o = good-run input xs (stepped block input (send n src dst weights) s) (good-finished n s g (o .0)) (o .1)
-    good-run input (output src slot ∷ xs) s g o = good-run input xs (stepped block input (output src slot) s) g o
+    good-run input (x ∷ xs) s g o =
+        good-run input xs (stepped block input x s)
+        (subst (λ (w : List ℕ). Good count ids w) (sym (step-nodes block input x s .words)) (good-ends (nodeNamed x) s g (o .0))) (o .1)

@@ -2,16 +2,15 @@
 -- Definitions only.
 use Prim.Native.Nat.{ℕ, _+_}
 use mathlib.Core.Path.{_≡_}
-use mathlib.Core.Bool.{cond}
 use mathlib.Core.List.{List, [], _∷_}
-use lib.Dec.{eqb}
 use lib.ListN.{length}
 use lib.Ieee.{Float}
 use Rattle.refusal.specs.Tests.{outcome}
 use Rattle.refusal.specs.declared.Answer.{Answer}
 use Rattle.refusal.specs.declared.Answer.the-variants.{Accepted}
+use Rattle.lists.specs.Entries.{times}
 use Rattle.plan.specs.declared.Plan.{Plan}
-use Rattle.plan.specs.Resolved.{Resolved, patch, gain, matrix, clear, send, output, resolvedSteps}
+use Rattle.plan.specs.Resolved.{Resolved, resolvedSteps, nodeNamed}
 use Rattle.setting.specs.Setting.{settingAnswer, settingFloats, settingWords}
 use Rattle.run.specs.Run.{Given, given, State, state, admission, processed}
 
@@ -79,9 +78,4 @@ module _ (f : Fixed) where
 -- how many steps of a list use a node
 unfoldable pub uses : ℕ → List Resolved → ℕ
 uses n [] = 0
-uses n (patch i c d ∷ xs) = uses n xs
-uses n (gain m src dst ∷ xs) = cond (eqb m n) 1 0 + uses n xs
-uses n (matrix m src dst ∷ xs) = cond (eqb m n) 1 0 + uses n xs
-uses n (clear dst ∷ xs) = uses n xs
-uses n (send m src dst weights ∷ xs) = cond (eqb m n) 1 0 + uses n xs
-uses n (output src slot ∷ xs) = uses n xs
+uses n (x ∷ xs) = times n (nodeNamed x) + uses n xs

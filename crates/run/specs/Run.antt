@@ -16,7 +16,7 @@ use Rattle.mix.specs.Mix.{gained, rows, sends, cleared, appended, patched}
 use Rattle.plan.specs.declared.Plan.{Plan}
 use Rattle.plan.specs.Areas.{areas, shortAreas}
 use Rattle.plan.specs.Check.{planTests}
-use Rattle.plan.specs.Resolved.{Resolved, patch, gain, matrix, clear, send, output, resolvedSteps}
+use Rattle.plan.specs.Resolved.{Resolved, patch, gain, matrix, clear, send, output, resolvedSteps, channelsOut}
 use Rattle.input.specs.Input.{lookup, directoryBad}
 use Rattle.run.specs.declared.Ran.{Ran}
 use Rattle.run.specs.declared.Ran.the-variants as ran
@@ -81,12 +81,7 @@ runSteps block input (x ∷ xs) s = runSteps block input xs (stepped block input
 -- the channels that the Outputs of a list of steps have
 unfoldable pub outputChannels : List Resolved → ℕ
 outputChannels [] = 0
-outputChannels (patch i c d ∷ xs) = outputChannels xs
-outputChannels (gain n src dst ∷ xs) = outputChannels xs
-outputChannels (matrix n src dst ∷ xs) = outputChannels xs
-outputChannels (clear dst ∷ xs) = outputChannels xs
-outputChannels (send n src dst weights ∷ xs) = outputChannels xs
-outputChannels (output src slot ∷ xs) = length src + outputChannels xs
+outputChannels (x ∷ xs) = channelsOut x + outputChannels xs
 
 abbrev pub stepsOfRun : Given → List Resolved
 stepsOfRun g = resolvedSteps (g .plan) (g .indices) (g .coefficients) (g .steps)

@@ -7,44 +7,34 @@ use native.Mathlib.Nat.{sub-zero, add-mul}
 use native.Mathlib.Omega.{arith}
 use lib.ListN.{length}
 use lib.Ieee.{Float}
-use Rattle.node.specs.Nodes.{finishBlock}
-use Rattle.node.specs.Areas.{nodeAt, someBad, storedWords}
-use Rattle.node.proofs.Bad.{none-bad-at, in-range-finish, none-bad-stored}
+use Rattle.node.specs.Areas.{someBad, idAt}
 use Rattle.plan.specs.declared.Plan.{Plan}
 use Rattle.plan.specs.declared.Step.{Step}
-use Rattle.plan.specs.declared.Step.the-variants.{Patch, Gain, Matrix, Clear, Send, Output}
 use Rattle.plan.specs.declared.Read.the-variants.{Found, Bad}
 use Rattle.plan.specs.Words.{readAt, decodedFrom, decoded}
-use Rattle.plan.specs.Resolved.{Resolved, resolved}
+use Rattle.plan.specs.Resolved.{Resolved, resolved, nodeNamed}
 use Rattle.plan.specs.Sound.{Passes}
 use Rattle.plan.proofs.Answers.{rest-of}
 use Rattle.plan.proofs.Words.{decoded-on, decoded-bad, decoded-none}
 use Rattle.plan.proofs.Accepted.{pass-inside, pass-narrow, pass-apart, pass-rest}
+use Rattle.plan.proofs.Named.{node-inside}
 use Rattle.plan.specs.Loops.{channels, channelsOf}
 use Rattle.run.specs.Run.{State, stepped, runSteps}
 use Rattle.run.specs.Loops.{Fit, FitStep}
 use Rattle.run.proofs.Outputs.{wrote-more}
+use Rattle.run.proofs.States.{Good, step-nodes, good-ends}
 
 -- a step makes no node bad
 module _ (p : Plan) (indices : List ℕ) (coefficients : List Float) (block : ℕ) (input : ℕ → ℕ → List Float) (s : State) where
-  finish-good : Fit p indices coefficients s → (n : ℕ) → n < p .nodes
-      → someBad (storedWords (s .words) n (finishBlock (nodeAt (s .floats) (s .words) n) block)) (p .nodes) ≡ false
-  finish-good f n h =
-      none-bad-stored (s .words) n (finishBlock (nodeAt (s .floats) (s .words) n) block) (p .nodes) (omega (arith, f .room .1))
-      (in-range-finish (nodeAt (s .floats) (s .words) n) block (none-bad-at (s .words) (p .nodes) (f .good) (s .floats) n h)) (f .good)
-
-  pub stepped-good : (x : Step) → FitStep p indices coefficients s x → someBad (stepped block input (resolved indices coefficients x) s .words) (p .nodes) ≡ false
-  unfolding stepped
-  stepped-good (Patch i c d) f = f .fit .good
-  stepped-good (Gain n a d) f = finish-good (f .fit) n (f .inside .0)
-  stepped-good (Matrix n a d) f = finish-good (f .fit) n (f .inside .0)
-  stepped-good (Clear d) f = f .fit .good
-  stepped-good (Send n a d c) f = finish-good (f .fit) n (f .inside .0)
-  stepped-good (Output a o) f = f .fit .good
+  pub stepped-good : (x : Step) → FitStep p indices coefficients s x → someBad (stepped block input (resolved p indices coefficients x) s .words) (p .nodes) ≡ false
+  stepped-good x f =
+      let y = resolved p indices coefficients x in
+      let good : Good (p .nodes) (idAt (s .words)) (s .words) = record { room = f .fit .room .1; ids-are = λ i h. refl; none-bad = f .fit .good } in
+      rw (step-nodes block input y s .words) (good-ends (p .nodes) (idAt (s .words)) block (nodeNamed y) s good (node-inside p indices coefficients x (f .inside)) .none-bad)
 
 module _ (p : Plan) (indices : List ℕ) (coefficients : List Float) (input : ℕ → ℕ → List Float) (w : List ℕ) (s₀ : State) where
   abbrev steps-of : List Step → List Resolved
-  steps-of l = map (resolved indices coefficients) l
+  steps-of l = map (resolved p indices coefficients) l
 
   abbrev from : ℕ → ℕ → List Step
   from i at = decodedFrom w (p .steps - i) at
@@ -96,7 +86,7 @@ module _ (p : Plan) (indices : List ℕ) (coefficients : List Float) (input : �
         omega (arith, room-here),
       )
 
-      pub going-on : (t : State) → t ≡ stepped (p .block) input (resolved indices coefficients x) s → length (t .floats) ≡ length (s .floats)
+      pub going-on : (t : State) → t ≡ stepped (p .block) input (resolved p indices coefficients x) s → length (t .floats) ≡ length (s .floats)
           → length (t .words) ≡ length (s .words) → length (t .buffers) ≡ length (s .buffers) → length (t .output) ≡ length (s .output)
           → Going next (i + 1) t
       unfolding runSteps

@@ -41,7 +41,7 @@ fn run_step(
     requires { ⌜ FitStep plan (now indices) (now coefficients) (state (now floats) (now words) (now buffers) (now output) wrote) step × (wrote + channels step * plan .block ≤ length (now output)) ⌝ }
     requires { ⌜ Firsts (now directory) (now firsts) ⌝ }
     ensures { λ r. ⌜ state (now (floats .exit)) (now (words .exit)) (now (buffers .exit)) (now (output .exit)) r
-        ≡ stepped (plan .block) (lookup (now (directory .entry)) (now (samples .entry))) (resolved (now (indices .entry)) (now (coefficients .entry)) step) (state (now (floats .entry)) (now (words .entry)) (now (buffers .entry)) (now (output .entry)) wrote) ⌝ }
+        ≡ stepped (plan .block) (lookup (now (directory .entry)) (now (samples .entry))) (resolved plan (now (indices .entry)) (now (coefficients .entry)) step) (state (now (floats .entry)) (now (words .entry)) (now (buffers .entry)) (now (output .entry)) wrote) ⌝ }
 {
     match step {
         Step::Patch {
@@ -94,7 +94,7 @@ fn run_steps(
     requires { ⌜ Firsts (now directory) (now firsts) ⌝ }
     requires { ⌜ channelsOf (decoded (now steps) (plan .steps)) * plan .block ≤ length (now output) ⌝ }
     ensures { λ r. ⌜ state (now (floats .exit)) (now (words .exit)) (now (buffers .exit)) (now (output .exit)) r
-        ≡ runSteps (plan .block) (lookup (now (directory .entry)) (now (samples .entry))) (map (resolved (now (indices .entry)) (now (coefficients .entry))) (decoded (now (steps .entry)) (plan .steps))) (state (now (floats .entry)) (now (words .entry)) (now (buffers .entry)) (now (output .entry)) 0) ⌝ }
+        ≡ runSteps (plan .block) (lookup (now (directory .entry)) (now (samples .entry))) (map (resolved plan (now (indices .entry)) (now (coefficients .entry))) (decoded (now (steps .entry)) (plan .steps))) (state (now (floats .entry)) (now (words .entry)) (now (buffers .entry)) (now (output .entry)) 0) ⌝ }
 {
     let mut wrote = 0;
     let mut at = 0;
@@ -137,7 +137,7 @@ pub fn run_block(
     requires { ⌜ Fit plan (now indices) (now coefficients) (state (now floats) (now words) (now buffers) (now output) 0) × Passes plan (now indices) (now steps) (plan .steps) 0 ⌝ }
     requires { ⌜ (channelsOf (decoded (now steps) (plan .steps)) * plan .block ≤ length (now output)) × (entries (now directory) ≤ maxEntries) ⌝ }
     ensures { λ r. ⌜ state (now (floats .exit)) (now (words .exit)) (now (buffers .exit)) (now (output .exit)) r
-        ≡ runSteps (plan .block) (lookup (now (directory .entry)) (now (samples .entry))) (map (resolved (now (indices .entry)) (now (coefficients .entry))) (decoded (now (steps .entry)) (plan .steps))) (state (now (floats .entry)) (now (words .entry)) (now (buffers .entry)) (now (output .entry)) 0) ⌝ }
+        ≡ runSteps (plan .block) (lookup (now (directory .entry)) (now (samples .entry))) (map (resolved plan (now (indices .entry)) (now (coefficients .entry))) (decoded (now (steps .entry)) (plan .steps))) (state (now (floats .entry)) (now (words .entry)) (now (buffers .entry)) (now (output .entry)) 0) ⌝ }
 {
     // So that a Patch starts at the first entry of its input; an input without one has a place past the last entry.
     let mut firsts = [input::NO_ENTRY; input::FIRSTS];

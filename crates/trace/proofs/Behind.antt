@@ -3,13 +3,13 @@
 use mathlib.Core.Path.{_≡_, refl, sym, ap, _∙_}
 use mathlib.Core.Bool.{Bool, true, false, _&&_, _||_, cond, false≢true}
 use mathlib.Core.List.{List, [], _∷_, map}
-use Prim.Native.Nat.{ℕ, zero, suc, _<_, _≤_, max}
+use Prim.Native.Nat.{ℕ, zero, suc, _<_, _≤_}
 use native.Mathlib.Omega.{arith}
 use lib.Dec.{eqb}
 use lib.ListN.{length, getD}
 use lib.Ieee.{Float}
 use borrow.Author.Tests.{eqb-true, eq-eqb}
-use Rattle.lists.specs.Entries.{has}
+use Rattle.lists.specs.Entries.{has, AllBelow}
 use Rattle.sets.specs.Sets.{sift}
 use Rattle.sets.proofs.Sift.{sift-same, sift-entry, sift-ascends, sift-lists}
 use Rattle.plan.specs.declared.Plan.{Plan}
@@ -17,15 +17,16 @@ use Rattle.plan.specs.declared.Step.{Step}
 use Rattle.plan.specs.declared.Step.the-variants.{Patch, Gain, Matrix, Clear, Send, Output}
 use Rattle.plan.specs.Limits.{inputs, slots}
 use Rattle.plan.specs.Sound.{Inside, Each, stepsOf, Sound}
-use Rattle.plan.specs.Resolved.{Resolved, patch, gain, matrix, clear, send, output, resolved, resolvedSteps}
+use Rattle.plan.specs.Resolved.{Resolved, patch, gain, matrix, clear, send, output, resolved, resolvedSteps, inputNamed}
+use Rattle.plan.proofs.Named.{input-inside, slot-inside, slot-named}
 use Rattle.trace.specs.Sources.{noSources, union, spread, joins, behind, sourceList, slotCount}
 use Rattle.trace.specs.Clean.{noneWritten, written, cleanStep, cleanFrom, clean}
 use Rattle.trace.specs.Calls.{tracedSteps}
 
 -- ---- no coefficient is read
-module _ (indices : List ℕ) (xs ys : List Float) where
+module _ (p : Plan) (indices : List ℕ) (xs ys : List Float) where
   behind-alike : (s : ℕ) (sources : ℕ → ℕ → Bool) (ss : List Step) (i : ℕ)
-      → behind s sources (map (resolved indices xs) ss) i ≡ behind s sources (map (resolved indices ys) ss) i
+      → behind s sources (map (resolved p indices xs) ss) i ≡ behind s sources (map (resolved p indices ys) ss) i
   unfolding behind spread joins
   behind-alike s sources [] i = refl
   behind-alike s sources (Patch n c d ∷ ss) i = behind-alike s _ ss i
@@ -33,27 +34,22 @@ module _ (indices : List ℕ) (xs ys : List Float) where
   behind-alike s sources (Matrix n a d ∷ ss) i = behind-alike s _ ss i
   behind-alike s sources (Clear d ∷ ss) i = behind-alike s _ ss i
   behind-alike s sources (Send n a d c ∷ ss) i = behind-alike s _ ss i
-  behind-alike s sources (Output a o ∷ ss) i = ap (λ (b : Bool). joins s sources (resolved indices xs (Output a o)) i || b) (behind-alike s _ ss i)
+  behind-alike s sources (Output a o ∷ ss) i = ap (λ (b : Bool). joins s sources (resolved p indices xs (Output a o)) i || b) (behind-alike s _ ss i)
 
-  count-alike : (ss : List Step) → slotCount (map (resolved indices xs) ss) ≡ slotCount (map (resolved indices ys) ss)
+  count-alike : (ss : List Step) → slotCount (map (resolved p indices xs) ss) ≡ slotCount (map (resolved p indices ys) ss)
   unfolding slotCount
   count-alike [] = refl
-  count-alike (Patch n c d ∷ ss) = count-alike ss
-  count-alike (Gain n a d ∷ ss) = count-alike ss
-  count-alike (Matrix n a d ∷ ss) = count-alike ss
-  count-alike (Clear d ∷ ss) = count-alike ss
-  count-alike (Send n a d c ∷ ss) = count-alike ss
-  count-alike (Output a o ∷ ss) = ap (max (suc o)) (count-alike ss)
+  count-alike (x ∷ ss) = rw (slot-named p indices xs x, slot-named p indices ys x, count-alike ss)
 
-  clean-alike : (w : ℕ → Bool) (ss : List Step) → cleanFrom w (map (resolved indices xs) ss) ≡ cleanFrom w (map (resolved indices ys) ss)
+  clean-alike : (w : ℕ → Bool) (ss : List Step) → cleanFrom w (map (resolved p indices xs) ss) ≡ cleanFrom w (map (resolved p indices ys) ss)
   unfolding cleanFrom cleanStep written
   clean-alike w [] = refl
   clean-alike w (Patch n c d ∷ ss) = clean-alike _ ss
-  clean-alike w (Gain n a d ∷ ss) = ap (λ (b : Bool). cleanStep w (resolved indices xs (Gain n a d)) && b) (clean-alike _ ss)
-  clean-alike w (Matrix n a d ∷ ss) = ap (λ (b : Bool). cleanStep w (resolved indices xs (Matrix n a d)) && b) (clean-alike _ ss)
+  clean-alike w (Gain n a d ∷ ss) = ap (λ (b : Bool). cleanStep w (resolved p indices xs (Gain n a d)) && b) (clean-alike _ ss)
+  clean-alike w (Matrix n a d ∷ ss) = ap (λ (b : Bool). cleanStep w (resolved p indices xs (Matrix n a d)) && b) (clean-alike _ ss)
   clean-alike w (Clear d ∷ ss) = clean-alike _ ss
-  clean-alike w (Send n a d c ∷ ss) = ap (λ (b : Bool). cleanStep w (resolved indices xs (Send n a d c)) && b) (clean-alike _ ss)
-  clean-alike w (Output a o ∷ ss) = ap (λ (b : Bool). cleanStep w (resolved indices xs (Output a o)) && b) (clean-alike _ ss)
+  clean-alike w (Send n a d c ∷ ss) = ap (λ (b : Bool). cleanStep w (resolved p indices xs (Send n a d c)) && b) (clean-alike _ ss)
+  clean-alike w (Output a o ∷ ss) = ap (λ (b : Bool). cleanStep w (resolved p indices xs (Output a o)) && b) (clean-alike _ ss)
 
 -- so the trace, which is lent none, goes over the steps that a run goes over
 module _ (p : Plan) (indices : List ℕ) (xs : List Float) (steps : List ℕ) where
@@ -61,7 +57,7 @@ module _ (p : Plan) (indices : List ℕ) (xs : List Float) (steps : List ℕ) wh
   run = resolvedSteps p indices xs steps
 
   pub traced-behind : (s i : ℕ) → behind s noSources run i ≡ behind s noSources (tracedSteps p indices steps) i
-  traced-behind s i = behind-alike indices xs [] s noSources (stepsOf p steps) i
+  traced-behind s i = behind-alike p indices xs [] s noSources (stepsOf p steps) i
 
   pub traced-coefficients : (s : ℕ) → sourceList s run ≡ sourceList s (tracedSteps p indices steps)
   unfolding sourceList
@@ -69,41 +65,26 @@ module _ (p : Plan) (indices : List ℕ) (xs : List Float) (steps : List ℕ) wh
       sift-same (behind s noSources run) (behind s noSources (tracedSteps p indices steps)) 0 inputs (λ i h l. traced-behind s i)
 
   pub traced-count : slotCount run ≡ slotCount (tracedSteps p indices steps)
-  traced-count = count-alike indices xs [] (stepsOf p steps)
+  traced-count = count-alike p indices xs [] (stepsOf p steps)
 
   pub traced-clean : clean run ≡ clean (tracedSteps p indices steps)
   unfolding clean
-  traced-clean = clean-alike indices xs [] noneWritten (stepsOf p steps)
+  traced-clean = clean-alike p indices xs [] noneWritten (stepsOf p steps)
 
 -- ---- every input of a Patch is below 256, as it is in a plan that was accepted
 abbrev pub Known : List Resolved → Type 0
 Known [] = Unit {0}
-Known (patch i c d ∷ xs) = (i < inputs) × Known xs
-Known (gain n a d ∷ xs) = Known xs
-Known (matrix n a d ∷ xs) = Known xs
-Known (clear d ∷ xs) = Known xs
-Known (send n a d w ∷ xs) = Known xs
-Known (output a o ∷ xs) = Known xs
+Known (x ∷ xs) = AllBelow inputs (inputNamed x) × Known xs
 
-pub inside-known : (p : Plan) (indices : List ℕ) (xs : List Float) (ss : List Step) → Each (Inside p) ss → Known (map (resolved indices xs) ss)
+pub inside-known : (p : Plan) (indices : List ℕ) (xs : List Float) (ss : List Step) → Each (Inside p) ss → Known (map (resolved p indices xs) ss)
 inside-known p indices xs [] e = tt
-inside-known p indices xs (Patch n c d ∷ ss) e = (e .0 .0, inside-known p indices xs ss (e .1))
-inside-known p indices xs (Gain n a d ∷ ss) e = inside-known p indices xs ss (e .1)
-inside-known p indices xs (Matrix n a d ∷ ss) e = inside-known p indices xs ss (e .1)
-inside-known p indices xs (Clear d ∷ ss) e = inside-known p indices xs ss (e .1)
-inside-known p indices xs (Send n a d c ∷ ss) e = inside-known p indices xs ss (e .1)
-inside-known p indices xs (Output a o ∷ ss) e = inside-known p indices xs ss (e .1)
+inside-known p indices xs (x ∷ ss) e = (input-inside p indices xs x (e .0), inside-known p indices xs ss (e .1))
 
 -- and every slot of an Output below 32, and so at most 32 slots
-pub inside-slots : (p : Plan) (indices : List ℕ) (xs : List Float) (ss : List Step) → Each (Inside p) ss → slotCount (map (resolved indices xs) ss) ≤ slots
+pub inside-slots : (p : Plan) (indices : List ℕ) (xs : List Float) (ss : List Step) → Each (Inside p) ss → slotCount (map (resolved p indices xs) ss) ≤ slots
 unfolding slotCount
 inside-slots p indices xs [] e = omega arith
-inside-slots p indices xs (Patch n c d ∷ ss) e = inside-slots p indices xs ss (e .1)
-inside-slots p indices xs (Gain n a d ∷ ss) e = inside-slots p indices xs ss (e .1)
-inside-slots p indices xs (Matrix n a d ∷ ss) e = inside-slots p indices xs ss (e .1)
-inside-slots p indices xs (Clear d ∷ ss) e = inside-slots p indices xs ss (e .1)
-inside-slots p indices xs (Send n a d c ∷ ss) e = inside-slots p indices xs ss (e .1)
-inside-slots p indices xs (Output a o ∷ ss) e = omega (arith, e .0 .1, inside-slots p indices xs ss (e .1))
+inside-slots p indices xs (x ∷ ss) e = omega (arith, slot-inside p indices xs x (e .0), inside-slots p indices xs ss (e .1))
 
 pub sound-known : {p : Plan} {short : Bool} {indices words steps : List ℕ} (xs : List Float) → Sound p short indices words steps
     → Known (resolvedSteps p indices xs steps)
@@ -127,27 +108,36 @@ module _ (sources : ℕ → ℕ → Bool) (l : Low sources) where
   union-low [] i e = absurd (false≢true e)
   union-low (s ∷ src) i e = joint (sources s i) (union sources src i) (l s i) (union-low src i) e
 
-pub behind-below : (s : ℕ) (sources : ℕ → ℕ → Bool) (xs : List Resolved) → Low sources → Known xs → (i : ℕ) → behind s sources xs i ≡ true → i < inputs
-unfolding behind spread joins
-behind-below s sources [] l k i e = absurd (false≢true e)
-behind-below s sources (patch n c d ∷ xs) l k i e =
-    behind-below s _ xs (λ b j. either (eqb b d) (eqb j n) (sources b j) (λ q. rw (eqb-true j n q) (k .0)) (l b j)) (k .1) i e
-behind-below s sources (gain n a d ∷ xs) l k i e =
-    behind-below s _ xs (λ b j. either (has d b) (union sources a j) (sources b j) (union-low sources l a j) (l b j)) k i e
-behind-below s sources (matrix n a d ∷ xs) l k i e =
-    behind-below s _ xs (λ b j. either (has d b) (union sources a j) (sources b j) (union-low sources l a j) (l b j)) k i e
-behind-below s sources (clear d ∷ xs) l k i e =
-    behind-below s _ xs (λ b j. either (has d b) false (sources b j) (λ q. absurd (false≢true q)) (l b j)) k i e
-behind-below s sources (send n a d w ∷ xs) l k i e =
-    behind-below s _ xs
-    (λ b j. either (has d b) (sources b j || union sources a j) (sources b j) (joint (sources b j) (union sources a j) (l b j) (union-low sources l a j)) (l b j)) k i e
-behind-below s sources (output a o ∷ xs) l k i e =
-    joint (eqb o s && union sources a i) (behind s (spread sources (output a o)) xs i) (λ q. union-low sources l a i (and-right (eqb o s) q))
-    (behind-below s (spread sources (output a o)) xs l k i) e
+-- one step: its sets, and what it adds to a slot
+spread-low : (sources : ℕ → ℕ → Bool) (x : Resolved) → Low sources → AllBelow inputs (inputNamed x) → Low (spread sources x)
+unfolding spread
+spread-low sources (patch n c d) l k b j = either (eqb b d) (eqb j n) (sources b j) (λ q. rw (eqb-true j n q) (k .0)) (l b j)
+spread-low sources (gain n a d) l k b j = either (has d b) (union sources a j) (sources b j) (union-low sources l a j) (l b j)
+spread-low sources (matrix n a d) l k b j = either (has d b) (union sources a j) (sources b j) (union-low sources l a j) (l b j)
+spread-low sources (clear d) l k b j = either (has d b) false (sources b j) (λ q. absurd (false≢true q)) (l b j)
+spread-low sources (send n a d w) l k b j =
+    either (has d b) (sources b j || union sources a j) (sources b j) (joint (sources b j) (union sources a j) (l b j) (union-low sources l a j)) (l b j)
+spread-low sources (output a o) l k b j = l b j
+
+joins-low : (s : ℕ) (sources : ℕ → ℕ → Bool) (x : Resolved) → Low sources → (i : ℕ) → joins s sources x i ≡ true → i < inputs
+unfolding joins
+joins-low s sources (patch n c d) l i e = absurd (false≢true e)
+joins-low s sources (gain n a d) l i e = absurd (false≢true e)
+joins-low s sources (matrix n a d) l i e = absurd (false≢true e)
+joins-low s sources (clear d) l i e = absurd (false≢true e)
+joins-low s sources (send n a d w) l i e = absurd (false≢true e)
+joins-low s sources (output a o) l i e = union-low sources l a i (and-right (eqb o s) e)
   where
     and-right : (t : Bool) → (t && union sources a i) ≡ true → union sources a i ≡ true
     and-right true q = q
     and-right false q = absurd (false≢true q)
+
+pub behind-below : (s : ℕ) (sources : ℕ → ℕ → Bool) (xs : List Resolved) → Low sources → Known xs → (i : ℕ) → behind s sources xs i ≡ true → i < inputs
+unfolding behind
+behind-below s sources [] l k i e = absurd (false≢true e)
+behind-below s sources (x ∷ xs) l k i e =
+    joint (joins s sources x i) (behind s (spread sources x) xs i) (joins-low s sources x l i)
+    (behind-below s (spread sources x) xs (spread-low sources x l (k .0)) (k .1) i) e
 
 -- ---- the list behind a slot
 has-at : (l : List ℕ) (k : ℕ) → k < length l → has l (getD l k 0) ≡ true

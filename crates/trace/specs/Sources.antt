@@ -1,13 +1,13 @@
 -- Document 01's source sets: the inputs behind each buffer and behind each slot. A set is a test here, whether input i is in it; a plan's sets
 -- are a test of a buffer and an input. Definitions only.
-use Prim.Native.Nat.{ℕ, suc, max}
+use Prim.Native.Nat.{ℕ, max}
 use mathlib.Core.Bool.{Bool, false, _&&_, _||_, cond}
 use mathlib.Core.List.{List, [], _∷_}
 use lib.Dec.{eqb}
 use Rattle.lists.specs.Entries.{has}
 use Rattle.sets.specs.Sets.{sift}
 use Rattle.plan.specs.Limits.{inputs}
-use Rattle.plan.specs.Resolved.{Resolved, patch, gain, matrix, clear, send, output}
+use Rattle.plan.specs.Resolved.{Resolved, patch, gain, matrix, clear, send, output, slotNamed}
 
 -- before the first step no buffer has an input
 abbrev pub noSources : ℕ → ℕ → Bool
@@ -52,9 +52,4 @@ sourceList s steps = sift (behind s noSources steps) 0 inputs
 -- "Slots run to the highest one named": how many there are, none where no Output is
 unfoldable pub slotCount : List Resolved → ℕ
 slotCount [] = 0
-slotCount (patch input channel dst ∷ xs) = slotCount xs
-slotCount (gain node src dst ∷ xs) = slotCount xs
-slotCount (matrix node src dst ∷ xs) = slotCount xs
-slotCount (clear dst ∷ xs) = slotCount xs
-slotCount (send node src dst weights ∷ xs) = slotCount xs
-slotCount (output src slot ∷ xs) = max (suc slot) (slotCount xs)
+slotCount (x ∷ xs) = max (slotNamed x) (slotCount xs)

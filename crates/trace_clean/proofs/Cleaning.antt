@@ -51,20 +51,20 @@ module _ (w : ℕ → Bool) (xs : List ℕ) where
 pub inside-as : (p : Plan) {x y : Step} → x ≡ y → Inside p x → Inside p y
 inside-as p e h = subst (λ (z : Step). Inside p z) e h
 
-module _ (indices : List ℕ) (w : ℕ → Bool) {x y : Step} (e : x ≡ y) where
-  pub clean-as : {t : Bool} → t ≡ cleanStep w (resolved indices [] y) → t ≡ cleanStep w (resolved indices [] x)
-  clean-as h = h ∙ ap (λ (z : Step). cleanStep w (resolved indices [] z)) (sym e)
+module _ (p : Plan) (indices : List ℕ) (w : ℕ → Bool) {x y : Step} (e : x ≡ y) where
+  pub clean-as : {t : Bool} → t ≡ cleanStep w (resolved p indices [] y) → t ≡ cleanStep w (resolved p indices [] x)
+  clean-as h = h ∙ ap (λ (z : Step). cleanStep w (resolved p indices [] z)) (sym e)
 
-  pub written-as : (s : Set) → ((b : ℕ) → member s b ≡ written w (resolved indices [] y) b) → (b : ℕ) → member s b ≡ written w (resolved indices [] x) b
-  written-as s h b = h b ∙ ap (λ (z : Step). written w (resolved indices [] z) b) (sym e)
+  pub written-as : (s : Set) → ((b : ℕ) → member s b ≡ written w (resolved p indices [] y) b) → (b : ℕ) → member s b ≡ written w (resolved p indices [] x) b
+  written-as s h b = h b ∙ ap (λ (z : Step). written w (resolved p indices [] z) b) (sym e)
 
 -- ---- between two steps
 module _ (p : Plan) (indices w : List ℕ) where
   abbrev from : ℕ → ℕ → List Resolved
-  from i at = map (resolved indices []) (decodedFrom w (p .steps - i) at)
+  from i at = map (resolved p indices []) (decodedFrom w (p .steps - i) at)
 
   abbrev whole : Bool
-  whole = clean (map (resolved indices []) (decoded w (p .steps)))
+  whole = clean (map (resolved p indices []) (decoded w (p .steps)))
 
   -- i steps are behind, and each may stand where it does: the plan is clean where the steps left are, from the buffers that are written
   pub record Cleaning (set : Set) (at i : ℕ) : Type 0 where
@@ -81,7 +81,7 @@ module _ (p : Plan) (indices w : List ℕ) where
         turns = omega arith;
         plan = c;
         pass = rw sub-zero (c .pass);
-        so = rw sub-zero (ap (λ (f : ℕ → Bool). cleanFrom f (map (resolved indices []) (decodedFrom w (p .steps) 0))) e);
+        so = rw sub-zero (ap (λ (f : ℕ → Bool). cleanFrom f (map (resolved p indices []) (decodedFrom w (p .steps) 0))) e);
       }
 
   module _ {set : Set} {at i : ℕ} (c : Cleaning set at i) where
@@ -89,30 +89,30 @@ module _ (p : Plan) (indices w : List ℕ) where
       pub cleaning-fits : IndexList p indices × Inside p x
       cleaning-fits = (c .plan .list, pass-inside p indices w at (rest-of h) (c .pass) r)
 
-      turn : whole ≡ (cleanStep (member set) (resolved indices [] x) && cleanFrom (written (member set) (resolved indices [] x)) (from (i + 1) next))
+      turn : whole ≡ (cleanStep (member set) (resolved p indices [] x) && cleanFrom (written (member set) (resolved p indices [] x)) (from (i + 1) next))
       unfolding cleanFrom
-      turn = c .so ∙ ap (λ (ss : List Step). cleanFrom (member set) (map (resolved indices []) ss)) (decoded-on w at (rest-of h) r)
+      turn = c .so ∙ ap (λ (ss : List Step). cleanFrom (member set) (map (resolved p indices []) ss)) (decoded-on w at (rest-of h) r)
 
-      pub cleaning-no : cleanStep (member set) (resolved indices [] x) ≡ false → false ≡ whole
+      pub cleaning-no : cleanStep (member set) (resolved p indices [] x) ≡ false → false ≡ whole
       cleaning-no e = sym (turn ∙ rw e)
 
-      pub cleaning-on : (set′ : Set) → cleanStep (member set) (resolved indices [] x) ≡ true
-          → ((b : ℕ) → member set′ b ≡ written (member set) (resolved indices [] x) b) → Cleaning set′ next (i + 1)
+      pub cleaning-on : (set′ : Set) → cleanStep (member set) (resolved p indices [] x) ≡ true
+          → ((b : ℕ) → member set′ b ≡ written (member set) (resolved p indices [] x) b) → Cleaning set′ next (i + 1)
       cleaning-on set′ e m =
-          let f : written (member set) (resolved indices [] x) ≡ member set′ = λ t b. sym (m b) t in
+          let f : written (member set) (resolved p indices [] x) ≡ member set′ = λ t b. sym (m b) t in
           record {
             turns = omega arith;
             plan = c .plan;
             pass = pass-rest p indices w at (rest-of h) (c .pass) r;
             so =
                 turn
-                ∙ ap (λ (t : Bool). t && cleanFrom (written (member set) (resolved indices [] x)) (from (i + 1) next)) e
+                ∙ ap (λ (t : Bool). t && cleanFrom (written (member set) (resolved p indices [] x)) (from (i + 1) next)) e
                 ∙ ap (λ (g : ℕ → Bool). cleanFrom g (from (i + 1) next)) f;
           }
 
     ended : decodedFrom w (p .steps - i) at ≡ [] → true ≡ whole
     unfolding cleanFrom
-    ended e = sym (c .so ∙ ap (λ (ss : List Step). cleanFrom (member set) (map (resolved indices []) ss)) e)
+    ended e = sym (c .so ∙ ap (λ (ss : List Step). cleanFrom (member set) (map (resolved p indices []) ss)) e)
 
     pub cleaning-bad : i < p .steps → readAt w at ≡ Bad → true ≡ whole
     cleaning-bad h r = ended (decoded-bad w at (rest-of h) r)

@@ -51,7 +51,7 @@ fn with_span(plan: Plan, set: Set, indices: &[u32], span: Span) -> Set
 // Whether a step may stand where the buffers of the set are written. Requires what the tests said of the plan and of it.
 fn clean_step(plan: Plan, set: Set, indices: &[u32], step: Step) -> bool
     requires { ⌜ IndexList plan (now indices) × Inside plan step ⌝ }
-    ensures { λ r. ⌜ r ≡ cleanStep (member set) (resolved (now (indices .entry)) [] step) ⌝ }
+    ensures { λ r. ⌜ r ≡ cleanStep (member set) (resolved plan (now (indices .entry)) [] step) ⌝ }
 {
     match step {
         Step::Patch {
@@ -79,7 +79,7 @@ fn clean_step(plan: Plan, set: Set, indices: &[u32], step: Step) -> bool
 // The buffers that are written once the step has gone by. Requires as `clean_step`.
 fn written(plan: Plan, set: Set, indices: &[u32], step: Step) -> Set
     requires { ⌜ IndexList plan (now indices) × Inside plan step ⌝ }
-    ensures { λ r. ⌜ ((b : ℕ) → member r b ≡ written (member set) (resolved (now (indices .entry)) [] step) b) ⌝ }
+    ensures { λ r. ⌜ ((b : ℕ) → member r b ≡ written (member set) (resolved plan (now (indices .entry)) [] step) b) ⌝ }
 {
     match step {
         Step::Patch {
@@ -111,7 +111,7 @@ fn written(plan: Plan, set: Set, indices: &[u32], step: Step) -> Set
 // Whether all steps may stand where they do. Requires what the tests said of the plan and its steps.
 pub fn all_clean(plan: Plan, indices: &[u32], steps: &[u32]) -> bool
     requires { ⌜ Tested plan (now indices) (now steps) ⌝ }
-    ensures { λ r. ⌜ r ≡ clean (map (resolved (now (indices .entry)) []) (decoded (now (steps .entry)) (plan .steps))) ⌝ }
+    ensures { λ r. ⌜ r ≡ clean (map (resolved plan (now (indices .entry)) []) (decoded (now (steps .entry)) (plan .steps))) ⌝ }
 {
     let n = plan.steps;
     let mut set = Set::empty();

@@ -26,6 +26,7 @@ use Rattle.plan.proofs.Answers.{rest-of}
 use Rattle.plan.proofs.Words.{decoded-on, decoded-bad, decoded-none}
 use Rattle.plan.proofs.Accepted.{pass-inside, pass-rest}
 use Rattle.plan.proofs.Step.{the-type}
+use Rattle.plan.proofs.Named.{slot-named}
 use Rattle.trace.specs.Sources.{union, spread, joins, behind, slotCount}
 use Rattle.trace_sources.specs.Loops.{areaWords, slotWords, sourcesOf, joined, withSlot, Fit, Spans}
 
@@ -35,8 +36,8 @@ no-output {x} h a o e =
     ⊎-elim (λ q. omega arith) (⊎-elim (λ q. omega arith) (⊎-elim (λ q. omega arith) (⊎-elim (λ q. omega arith) (λ q. omega arith))))
     (subst (λ (y : Step). OneOf (0 ∷ 1 ∷ 2 ∷ 3 ∷ 4 ∷ []) (tagOf the-type y)) e h)
 
-module _ (indices : List ℕ) (s : ℕ) (sources : ℕ → ℕ → Bool) where
-  pub joins-none : (x : Step) → ((a : Span) (o : ℕ) → x ≡ Output a o → ⊥) → (i : ℕ) → joins s sources (resolved indices [] x) i ≡ false
+module _ (p : Plan) (indices : List ℕ) (s : ℕ) (sources : ℕ → ℕ → Bool) where
+  pub joins-none : (x : Step) → ((a : Span) (o : ℕ) → x ≡ Output a o → ⊥) → (i : ℕ) → joins s sources (resolved p indices [] x) i ≡ false
   unfolding joins
   joins-none (Patch n c d) h i = refl
   joins-none (Gain n a d) h i = refl
@@ -47,12 +48,12 @@ module _ (indices : List ℕ) (s : ℕ) (sources : ℕ → ℕ → Bool) where
 
   -- what a store of the slot's own set with that of src leaves
   pub joins-stored : {x : Step} (a : Span) (o : ℕ) → x ≡ Output a o → (more : Set) → ((i : ℕ) → member more i ≡ union sources (named indices a) i)
-      → (i : ℕ) (own : Bool) → cond (eqb s o) (joined more i own) own ≡ (own || joins s sources (resolved indices [] x) i)
+      → (i : ℕ) (own : Bool) → cond (eqb s o) (joined more i own) own ≡ (own || joins s sources (resolved p indices [] x) i)
   unfolding joins
   joins-stored a o e more m i own =
       go (eqb s o)
       ∙ ap (λ (t : Bool). own || (t && union sources (named indices a) i)) (eqb-swap s o)
-      ∙ ap (λ (y : Step). own || joins s sources (resolved indices [] y) i) (sym e)
+      ∙ ap (λ (y : Step). own || joins s sources (resolved p indices [] y) i) (sym e)
     where
       go : (t : Bool) → cond t (joined more i own) own ≡ (own || (t && union sources (named indices a) i))
       go true = ap (λ (b : Bool). own || b) (m i)
@@ -66,34 +67,29 @@ pub spans-of : {p : Plan} {indices area : List ℕ} {x : Step} {a d : Span} → 
     → Spans p indices area a d
 spans-of f h k = record { list = f .list; sources = h; targets = k; room = f .room }
 
-pub spread-as : (indices : List ℕ) (sources next : ℕ → ℕ → Bool) {x y : Step} → x ≡ y → next ≡ spread sources (resolved indices [] y)
-    → next ≡ spread sources (resolved indices [] x)
-spread-as indices sources next e h = h ∙ ap (λ (z : Step). spread sources (resolved indices [] z)) (sym e)
+pub spread-as : (p : Plan) (indices : List ℕ) (sources next : ℕ → ℕ → Bool) {x y : Step} → x ≡ y → next ≡ spread sources (resolved p indices [] y)
+    → next ≡ spread sources (resolved p indices [] x)
+spread-as p indices sources next e h = h ∙ ap (λ (z : Step). spread sources (resolved p indices [] z)) (sym e)
 
 -- ---- the count of slots
-module _ (indices : List ℕ) where
+module _ (p : Plan) (indices : List ℕ) where
   abbrev count : List Step → ℕ
-  count ss = slotCount (map (resolved indices []) ss)
+  count ss = slotCount (map (resolved p indices []) ss)
 
   more : (n : ℕ) (x : Step) (ss : List Step) → max (withSlot n x) (count ss) ≡ max n (count (x ∷ ss))
   unfolding slotCount
-  more n (Patch i c d) ss = refl
-  more n (Gain k a d) ss = refl
-  more n (Matrix k a d) ss = refl
-  more n (Clear d) ss = refl
-  more n (Send k a d c) ss = refl
-  more n (Output a o) ss = omega arith
+  more n x ss = rw (slot-named p indices [] x) (omega arith)
 
   none : (n : ℕ) → max n (count []) ≡ n
   unfolding slotCount
   none n = omega arith
 
 pub slot-none : (n : ℕ) (x : Step) → ((a : Span) (o : ℕ) → x ≡ Output a o → ⊥) → withSlot n x ≡ n
-slot-none n (Patch i c d) h = refl
-slot-none n (Gain k a d) h = refl
-slot-none n (Matrix k a d) h = refl
-slot-none n (Clear d) h = refl
-slot-none n (Send k a d c) h = refl
+slot-none n (Patch i c d) h = omega arith
+slot-none n (Gain k a d) h = omega arith
+slot-none n (Matrix k a d) h = omega arith
+slot-none n (Clear d) h = omega arith
+slot-none n (Send k a d c) h = omega arith
 slot-none n (Output a o) h = absurd (h a o refl)
 
 module _ (n : ℕ) {x : Step} (a : Span) (o : ℕ) (e : x ≡ Output a o) where
@@ -110,7 +106,7 @@ module _ (p : Plan) (indices w area₀ slots₀ : List ℕ) where
 
   -- what is in the set of slot s, and what steps join to it
   abbrev sum : List ℕ → List ℕ → List Step → ℕ → ℕ → Bool
-  sum area slots ss s j = sourcesOf slots s j || behind s (sourcesOf area) (map (resolved indices []) ss) j
+  sum area slots ss s j = sourcesOf slots s j || behind s (sourcesOf area) (map (resolved p indices []) ss) j
 
   -- i steps are behind: for each slot, the inputs that are in its set, and those that the steps left join from the sets of the buffers, are
   -- those that were in it and those that all steps join from the sets at the start
@@ -120,7 +116,7 @@ module _ (p : Plan) (indices w area₀ slots₀ : List ℕ) where
     pub pass : Passes p indices w (p .steps - i) at
     pub room : length area ≡ areaWords
     pub slot-room : length slots ≡ slotWords
-    pub counted : max count (slotCount (map (resolved indices []) (from i at))) ≡ slotCount (map (resolved indices []) (decoded w (p .steps)))
+    pub counted : max count (slotCount (map (resolved p indices []) (from i at))) ≡ slotCount (map (resolved p indices []) (decoded w (p .steps)))
     pub so : (s j : ℕ) → sum area slots (from i at) s j ≡ sum area₀ slots₀ (decoded w (p .steps)) s j
 
   pub walking-starts : Tested p indices w → length area₀ ≡ areaWords → length slots₀ ≡ slotWords → Walking area₀ slots₀ 0 0 0
@@ -142,8 +138,8 @@ module _ (p : Plan) (indices w area₀ slots₀ : List ℕ) where
       walking-fits = record { list = c .plan .list; inside = pass-inside p indices w at (rest-of h) (c .pass) r; room = c .room }
 
       pub walking-on : (area′ slots′ : List ℕ) (count′ : ℕ)
-          → ((s j : ℕ) → sourcesOf slots′ s j ≡ (sourcesOf slots s j || joins s (sourcesOf area) (resolved indices [] x) j))
-          → length slots′ ≡ length slots → sourcesOf area′ ≡ spread (sourcesOf area) (resolved indices [] x) → length area′ ≡ length area
+          → ((s j : ℕ) → sourcesOf slots′ s j ≡ (sourcesOf slots s j || joins s (sourcesOf area) (resolved p indices [] x) j))
+          → length slots′ ≡ length slots → sourcesOf area′ ≡ spread (sourcesOf area) (resolved p indices [] x) → length area′ ≡ length area
           → count′ ≡ withSlot count x → Walking area′ slots′ count′ next (i + 1)
       unfolding behind
       walking-on area′ slots′ count′ m k e l n =
@@ -154,21 +150,21 @@ module _ (p : Plan) (indices w area₀ slots₀ : List ℕ) where
             room = l ∙ c .room;
             slot-room = k ∙ c .slot-room;
             counted =
-                ap (λ (t : ℕ). max t (slotCount (map (resolved indices []) (from (i + 1) next)))) n
-                ∙ more indices count x (from (i + 1) next)
-                ∙ ap (λ (ss : List Step). max count (slotCount (map (resolved indices []) ss))) (sym (decoded-on w at (rest-of h) r))
+                ap (λ (t : ℕ). max t (slotCount (map (resolved p indices []) (from (i + 1) next)))) n
+                ∙ more p indices count x (from (i + 1) next)
+                ∙ ap (λ (ss : List Step). max count (slotCount (map (resolved p indices []) ss))) (sym (decoded-on w at (rest-of h) r))
                 ∙ c .counted;
             so = λ s j.
-                ap (λ (f : ℕ → ℕ → Bool). sourcesOf slots′ s j || behind s f (map (resolved indices []) (from (i + 1) next)) j) e
-                ∙ ap (λ (b : Bool). b || behind s (spread (sourcesOf area) (resolved indices [] x)) (map (resolved indices []) (from (i + 1) next)) j) (m s j)
-                ∙ or-assoc (sourcesOf slots s j) (joins s (sourcesOf area) (resolved indices [] x) j) _
+                ap (λ (f : ℕ → ℕ → Bool). sourcesOf slots′ s j || behind s f (map (resolved p indices []) (from (i + 1) next)) j) e
+                ∙ ap (λ (b : Bool). b || behind s (spread (sourcesOf area) (resolved p indices [] x)) (map (resolved p indices []) (from (i + 1) next)) j) (m s j)
+                ∙ or-assoc (sourcesOf slots s j) (joins s (sourcesOf area) (resolved p indices [] x) j) _
                 ∙ ap (λ (ss : List Step). sum area slots ss s j) (sym (decoded-on w at (rest-of h) r))
                 ∙ c .so s j;
           }
 
     -- what the walk hands back once no step is left
     pub record Walked : Type 0 where
-      pub all : count ≡ slotCount (map (resolved indices []) (decoded w (p .steps)))
+      pub all : count ≡ slotCount (map (resolved p indices []) (decoded w (p .steps)))
       pub sets : (s j : ℕ) → sourcesOf slots s j ≡ sum area₀ slots₀ (decoded w (p .steps)) s j
 
     ended : from i at ≡ [] → Walked
@@ -176,8 +172,8 @@ module _ (p : Plan) (indices w area₀ slots₀ : List ℕ) where
     ended e =
         record {
           all =
-              sym (none indices count)
-              ∙ ap (λ (ss : List Step). max count (slotCount (map (resolved indices []) ss))) (sym e)
+              sym (none p indices count)
+              ∙ ap (λ (ss : List Step). max count (slotCount (map (resolved p indices []) ss))) (sym e)
               ∙ c .counted;
           sets = λ s j. sym (or-false (sourcesOf slots s j)) ∙ ap (λ (ss : List Step). sum area slots ss s j) (sym e) ∙ c .so s j;
         }

@@ -1,6 +1,6 @@
 -- What the contracts of the walk, and of the calls above it, cite: the source sets of all buffers in an area of words, what a loop over a list of buffers makes
 -- of them, and what the walk takes for granted. Definitions only.
-use Prim.Native.Nat.{ℕ, suc, _+_, _*_, max}
+use Prim.Native.Nat.{ℕ, _+_, _*_, max}
 use mathlib.Core.Path.{_≡_}
 use mathlib.Core.Bool.{Bool, _||_, cond}
 use mathlib.Core.List.{List}
@@ -11,9 +11,9 @@ use Rattle.sets.specs.Sets.{setWords, member, members}
 use Rattle.plan.specs.declared.Plan.{Plan}
 use Rattle.plan.specs.declared.Span.{Span}
 use Rattle.plan.specs.declared.Step.{Step}
-use Rattle.plan.specs.declared.Step.the-variants.{Patch, Gain, Matrix, Clear, Send, Output}
 use Rattle.plan.specs.Limits.{slots, unitLimits}
 use Rattle.plan.specs.Sound.{Within, Inside, IndexList}
+use Rattle.plan.specs.Loops.{slotOf}
 
 -- ---- the areas: the words of a set for each buffer that a plan can have, and for each slot
 
@@ -63,9 +63,4 @@ pub record Spans (p : Plan) (indices area : List ℕ) (src dst : Span) : Type 0 
 
 -- ---- the count of slots where step x comes to those before it
 abbrev pub withSlot : ℕ → Step → ℕ
-withSlot n (Patch i c d) = n
-withSlot n (Gain k a d) = n
-withSlot n (Matrix k a d) = n
-withSlot n (Clear d) = n
-withSlot n (Send k a d c) = n
-withSlot n (Output a o) = max (suc o) n
+withSlot n x = max (slotOf x) n

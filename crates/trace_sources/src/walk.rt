@@ -88,7 +88,7 @@ fn send(plan: Plan, indices: &[u32], area: &mut [u64], src: Span, dst: Span)
 // The sets after a step. Requires what the tests said of the plan and of it, and the words of all buffers.
 fn spread(plan: Plan, indices: &[u32], area: &mut [u64], step: Step)
     requires { ⌜ Fit plan (now indices) (now area) step ⌝ }
-    ensures { λ _. ⌜ sourcesOf (now (area .exit)) ≡ spread (sourcesOf (now (area .entry))) (resolved (now (indices .entry)) [] step) ⌝ }
+    ensures { λ _. ⌜ sourcesOf (now (area .exit)) ≡ spread (sourcesOf (now (area .entry))) (resolved plan (now (indices .entry)) [] step) ⌝ }
 {
     match step {
         Step::Patch {
@@ -112,7 +112,7 @@ fn spread(plan: Plan, indices: &[u32], area: &mut [u64], step: Step)
 // The sets of the slots, with the inputs that a step joins to one. Requires as `spread`, and the words of all slots.
 fn join(plan: Plan, indices: &[u32], area: &[u64], slots: &mut [u64], step: Step)
     requires { ⌜ Fit plan (now indices) (now area) step × (length (now slots) ≡ slotWords) ⌝ }
-    ensures { λ _. ⌜ ((s i : ℕ) → sourcesOf (now (slots .exit)) s i ≡ (sourcesOf (now (slots .entry)) s i || joins s (sourcesOf (now (area .entry))) (resolved (now (indices .entry)) [] step) i)) ⌝ }
+    ensures { λ _. ⌜ ((s i : ℕ) → sourcesOf (now (slots .exit)) s i ≡ (sourcesOf (now (slots .entry)) s i || joins s (sourcesOf (now (area .entry))) (resolved plan (now (indices .entry)) [] step) i)) ⌝ }
 {
     let Step::Output { src, slot } = step else {
         return;
@@ -127,8 +127,8 @@ fn join(plan: Plan, indices: &[u32], area: &[u64], slots: &mut [u64], step: Step
 // of all slots.
 fn walk(plan: Plan, indices: &[u32], steps: &[u32], area: &mut [u64], slots: &mut [u64]) -> usize
     requires { ⌜ Tested plan (now indices) (now steps) × (length (now area) ≡ areaWords) × (length (now slots) ≡ slotWords) ⌝ }
-    ensures count { λ r. ⌜ r ≡ slotCount (map (resolved (now (indices .entry)) []) (decoded (now (steps .entry)) (plan .steps))) ⌝ }
-    ensures sets { λ _. ⌜ ((s i : ℕ) → sourcesOf (now (slots .exit)) s i ≡ (sourcesOf (now (slots .entry)) s i || behind s (sourcesOf (now (area .entry))) (map (resolved (now (indices .entry)) []) (decoded (now (steps .entry)) (plan .steps))) i)) ⌝ }
+    ensures count { λ r. ⌜ r ≡ slotCount (map (resolved plan (now (indices .entry)) []) (decoded (now (steps .entry)) (plan .steps))) ⌝ }
+    ensures sets { λ _. ⌜ ((s i : ℕ) → sourcesOf (now (slots .exit)) s i ≡ (sourcesOf (now (slots .entry)) s i || behind s (sourcesOf (now (area .entry))) (map (resolved plan (now (indices .entry)) []) (decoded (now (steps .entry)) (plan .steps))) i)) ⌝ }
 {
     let n = plan.steps;
     let mut count = 0;
@@ -149,8 +149,8 @@ fn walk(plan: Plan, indices: &[u32], steps: &[u32], area: &mut [u64], slots: &mu
 // words of all slots.
 pub fn behind(plan: Plan, indices: &[u32], steps: &[u32], slots: &mut [u64]) -> usize
     requires { ⌜ Tested plan (now indices) (now steps) × (length (now slots) ≡ slotWords) ⌝ }
-    ensures count { λ r. ⌜ r ≡ slotCount (map (resolved (now (indices .entry)) []) (decoded (now (steps .entry)) (plan .steps))) ⌝ }
-    ensures sets { λ _. ⌜ ((s i : ℕ) → sourcesOf (now (slots .exit)) s i ≡ (sourcesOf (now (slots .entry)) s i || behind s noSources (map (resolved (now (indices .entry)) []) (decoded (now (steps .entry)) (plan .steps))) i)) ⌝ }
+    ensures count { λ r. ⌜ r ≡ slotCount (map (resolved plan (now (indices .entry)) []) (decoded (now (steps .entry)) (plan .steps))) ⌝ }
+    ensures sets { λ _. ⌜ ((s i : ℕ) → sourcesOf (now (slots .exit)) s i ≡ (sourcesOf (now (slots .entry)) s i || behind s noSources (map (resolved plan (now (indices .entry)) []) (decoded (now (steps .entry)) (plan .steps))) i)) ⌝ }
 {
     let mut area = [0u64; AREA_WORDS];
     walk(plan, indices, steps, &mut area, slots)

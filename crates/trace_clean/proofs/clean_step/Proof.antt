@@ -56,7 +56,7 @@ span-in-requires-5 c κs =
 
 returns : tie.Need-returns
 unfolding cleanStep
-returns c = let a = c .before .before .before .args in clean-as (a .indices .now) (member (a .set)) (c .enum-told .given .1) (refl)
+returns c = let a = c .before .before .before .args in clean-as (a .plan) (a .indices .now) (member (a .set)) (c .enum-told .given .1) (refl)
 
 returns-2 : tie.Need-returns-2
 unfolding cleanStep
@@ -67,23 +67,23 @@ returns-2 c =
     let h = inside-as (a .plan) (k .1) (s .pre .1) in
     let src = span-length (a .plan) (a .indices .now) (s .pre .0) (k .0 .1 .0) (h .1) in
     let dst = span-length (a .plan) (a .indices .now) (s .pre .0) (k .0 .1 .1 .0) (h .2) in
-    clean-as (a .indices .now) (member (a .set)) (k .1) (ap₂ _&&_ (ap₂ leb (sym dst) (sym src)) (c .span-in .ensures))
+    clean-as (a .plan) (a .indices .now) (member (a .set)) (k .1) (ap₂ _&&_ (ap₂ leb (sym dst) (sym src)) (c .span-in .ensures))
 
 returns-3 : tie.Need-returns-3
 unfolding cleanStep
-returns-3 c = let a = c .before .before .before .before .before .args in clean-as (a .indices .now) (member (a .set)) (c .before .before .step2 .given .1) (c .span-in2 .ensures)
+returns-3 c = let a = c .before .before .before .before .before .args in clean-as (a .plan) (a .indices .now) (member (a .set)) (c .before .before .step2 .given .1) (c .span-in2 .ensures)
 
 returns-4 : tie.Need-returns-4
 unfolding cleanStep
-returns-4 c = let a = c .before .before .before .args in clean-as (a .indices .now) (member (a .set)) (c .enum-told2 .given .1) (refl)
+returns-4 c = let a = c .before .before .before .args in clean-as (a .plan) (a .indices .now) (member (a .set)) (c .enum-told2 .given .1) (refl)
 
 returns-5 : tie.Need-returns-5
 unfolding cleanStep
-returns-5 c = let a = c .before .before .before .before .before .before .args in clean-as (a .indices .now) (member (a .set)) (c .before .before .before .step3 .given .1) (ap₂ _&&_ (c .before .span-in3 .ensures) (c .span-in4 .ensures))
+returns-5 c = let a = c .before .before .before .before .before .before .args in clean-as (a .plan) (a .indices .now) (member (a .set)) (c .before .before .before .step3 .given .1) (ap₂ _&&_ (c .before .span-in3 .ensures) (c .span-in4 .ensures))
 
 returns-6 : tie.Need-returns-6
 unfolding cleanStep
-returns-6 c = let a = c .before .before .before .before .before .args in clean-as (a .indices .now) (member (a .set)) (c .before .before .step4 .given .1) (c .span-in5 .ensures)
+returns-6 c = let a = c .before .before .before .before .before .args in clean-as (a .plan) (a .indices .now) (member (a .set)) (c .before .before .step4 .given .1) (c .span-in5 .ensures)
 
 pub clean-step-spec : {M : Type 1} → statement M
 clean-step-spec =

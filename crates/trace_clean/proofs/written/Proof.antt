@@ -57,38 +57,38 @@ unfolding written
 returns c =
     let a = c .before .before .before .before .before .args in
     let k = c .before .before .step .given in
-    written-as (a .indices .now) (member (a .set)) (k .1) (c .with .result)
+    written-as (a .plan) (a .indices .now) (member (a .set)) (k .1) (c .with .result)
     (λ b. c .with .ensures b ∙ or-comm (member (a .set) b) (eqb b (k .0 .1 .1 .0)))
 
 returns-2 : tie.Need-returns-2
 unfolding written
 returns-2 c =
     let a = c .before .before .before .before .before .args in
-    written-as (a .indices .now) (member (a .set)) (c .before .before .step2 .given .1) (c .with-span .result) (c .with-span .ensures)
+    written-as (a .plan) (a .indices .now) (member (a .set)) (c .before .before .step2 .given .1) (c .with-span .result) (c .with-span .ensures)
 
 returns-3 : tie.Need-returns-3
 unfolding written
 returns-3 c =
     let a = c .before .before .before .before .before .args in
-    written-as (a .indices .now) (member (a .set)) (c .before .before .step3 .given .1) (c .with-span2 .result) (c .with-span2 .ensures)
+    written-as (a .plan) (a .indices .now) (member (a .set)) (c .before .before .step3 .given .1) (c .with-span2 .result) (c .with-span2 .ensures)
 
 returns-4 : tie.Need-returns-4
 unfolding written
 returns-4 c =
     let a = c .before .before .before .before .before .args in
-    written-as (a .indices .now) (member (a .set)) (c .before .before .step4 .given .1) (c .with-span3 .result) (c .with-span3 .ensures)
+    written-as (a .plan) (a .indices .now) (member (a .set)) (c .before .before .step4 .given .1) (c .with-span3 .result) (c .with-span3 .ensures)
 
 returns-5 : tie.Need-returns-5
 unfolding written
 returns-5 c =
     let a = c .before .before .before .args in
-    written-as (a .indices .now) (member (a .set)) (c .enum-told .given .1) (a .set) (λ b. refl)
+    written-as (a .plan) (a .indices .now) (member (a .set)) (c .enum-told .given .1) (a .set) (λ b. refl)
 
 returns-6 : tie.Need-returns-6
 unfolding written
 returns-6 c =
     let a = c .before .before .before .args in
-    written-as (a .indices .now) (member (a .set)) (c .enum-told2 .given .1) (a .set) (λ b. refl)
+    written-as (a .plan) (a .indices .now) (member (a .set)) (c .enum-told2 .given .1) (a .set) (λ b. refl)
 
 pub written-spec : {M : Type 1} → statement M
 written-spec =

@@ -25,7 +25,7 @@ returns : tie.Need-returns
 returns c =
     let a = c .before .before .before .before .before .before .before .before .before .args in
     let w = c .before .before .before .walk .ensures in
-    (w .0, λ s i. w .1 s i ∙ ap (λ (f : ℕ → ℕ → Bool). sourcesOf (a .slots .now) s i || behind s f (map (resolved (a .indices .now) []) (decoded (a .steps .now) (a .plan .steps))) i) (zeros areaWords))
+    (w .0, λ s i. w .1 s i ∙ ap (λ (f : ℕ → ℕ → Bool). sourcesOf (a .slots .now) s i || behind s f (map (resolved (a .plan) (a .indices .now) []) (decoded (a .steps .now) (a .plan .steps))) i) (zeros areaWords))
 
 pub behind-spec : {M : Type 1} → statement M
 behind-spec = tie.close (tie.spec slice-aggregate-walk walk-requires same-length returns)

@@ -16,7 +16,7 @@ returns : tie.Need-returns
 returns c s i =
     let a = c .before .before .before .before .args in
     let own = sourcesOf (a .slots .now) s i in
-    sym (ap (λ (b : Bool). own || b) (joins-none (a .indices .now) s (sourcesOf (a .area .now)) (a .step) (no-output (c .match .keys2)) i) ∙ or-false own)
+    sym (ap (λ (b : Bool). own || b) (joins-none (a .plan) (a .indices .now) s (sourcesOf (a .area .now)) (a .step) (no-output (c .match .keys2)) i) ∙ or-false own)
 
 load-requires : tie.Need-load-requires
 load-requires c κs =
@@ -48,7 +48,7 @@ returns-2 c s i =
     let set = c .before .before .before .before .union in
     let t = c .before .before .store in
     joined-stored (a .slots .now) (t .last .0) (k .0 .1 .0) (more .result) (own .result) (set .result) (own .ensures) (set .ensures) (t .ensures) s i
-    ∙ joins-stored (a .indices .now) s (sourcesOf (a .area .now)) (k .0 .0) (k .0 .1 .0) (k .1) (more .result) (more .ensures) i (sourcesOf (a .slots .now) s i)
+    ∙ joins-stored (a .plan) (a .indices .now) s (sourcesOf (a .area .now)) (k .0 .0) (k .0 .1 .0) (k .1) (more .result) (more .ensures) i (sourcesOf (a .slots .now) s i)
 
 pub join-spec : {M : Type 1} → statement M
 join-spec =

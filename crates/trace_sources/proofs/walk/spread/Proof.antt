@@ -58,7 +58,7 @@ returns : tie.Need-returns
 unfolding spread
 returns c =
     let a = c .before .before .before .before .before .before .before .before .before .args in
-    spread-as (a .indices .now) (sourcesOf (a .area .now)) (sourcesOf (c .before .before .patch .last .0)) (c .before .before .before .before .before .step .given .1) (λ t b i. (c .before .before .patch .ensures) b i t)
+    spread-as (a .plan) (a .indices .now) (sourcesOf (a .area .now)) (sourcesOf (c .before .before .patch .last .0)) (c .before .before .before .before .before .step .given .1) (λ t b i. (c .before .before .patch .ensures) b i t)
 
 same-length-2 : tie.Need-same-length-2
 same-length-2 c = search needs
@@ -67,7 +67,7 @@ returns-2 : tie.Need-returns-2
 unfolding spread
 returns-2 c =
     let a = c .before .before .before .before .before .before .before .before .before .args in
-    spread-as (a .indices .now) (sourcesOf (a .area .now)) (sourcesOf (c .before .before .replace .last .1 .1 .0)) (c .before .before .before .before .before .step2 .given .1) (c .before .before .replace .ensures)
+    spread-as (a .plan) (a .indices .now) (sourcesOf (a .area .now)) (sourcesOf (c .before .before .replace .last .1 .1 .0)) (c .before .before .before .before .before .step2 .given .1) (c .before .before .replace .ensures)
 
 same-length-3 : tie.Need-same-length-3
 same-length-3 c = search needs
@@ -76,7 +76,7 @@ returns-3 : tie.Need-returns-3
 unfolding spread
 returns-3 c =
     let a = c .before .before .before .before .before .before .before .before .before .args in
-    spread-as (a .indices .now) (sourcesOf (a .area .now)) (sourcesOf (c .before .before .replace2 .last .1 .1 .0)) (c .before .before .before .before .before .step3 .given .1) (c .before .before .replace2 .ensures)
+    spread-as (a .plan) (a .indices .now) (sourcesOf (a .area .now)) (sourcesOf (c .before .before .replace2 .last .1 .1 .0)) (c .before .before .before .before .before .step3 .given .1) (c .before .before .replace2 .ensures)
 
 same-length-4 : tie.Need-same-length-4
 same-length-4 c = search needs
@@ -85,7 +85,7 @@ returns-4 : tie.Need-returns-4
 unfolding spread
 returns-4 c =
     let a = c .before .before .before .before .before .before .before .before .before .args in
-    spread-as (a .indices .now) (sourcesOf (a .area .now)) (sourcesOf (c .before .before .clear .last .1 .1 .0)) (c .before .before .before .before .before .step4 .given .1) (c .before .before .clear .ensures)
+    spread-as (a .plan) (a .indices .now) (sourcesOf (a .area .now)) (sourcesOf (c .before .before .clear .last .1 .1 .0)) (c .before .before .before .before .before .step4 .given .1) (c .before .before .clear .ensures)
 
 same-length-5 : tie.Need-same-length-5
 same-length-5 c = search needs
@@ -94,13 +94,13 @@ returns-5 : tie.Need-returns-5
 unfolding spread
 returns-5 c =
     let a = c .before .before .before .before .before .before .before .before .before .args in
-    spread-as (a .indices .now) (sourcesOf (a .area .now)) (sourcesOf (c .before .before .send .last .1 .1 .0)) (c .before .before .before .before .before .step5 .given .1) (c .before .before .send .ensures)
+    spread-as (a .plan) (a .indices .now) (sourcesOf (a .area .now)) (sourcesOf (c .before .before .send .last .1 .1 .0)) (c .before .before .before .before .before .step5 .given .1) (c .before .before .send .ensures)
 
 returns-6 : tie.Need-returns-6
 unfolding spread
 returns-6 c =
     let a = c .before .before .before .before .args in
-    spread-as (a .indices .now) (sourcesOf (a .area .now)) (sourcesOf (a .area .now)) (c .enum-told .given .1) refl
+    spread-as (a .plan) (a .indices .now) (sourcesOf (a .area .now)) (sourcesOf (a .area .now)) (c .enum-told .given .1) refl
 
 pub spread-spec : {M : Type 1} → statement M
 spread-spec =
