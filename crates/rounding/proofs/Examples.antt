@@ -1,8 +1,8 @@
--- Worked examples of `narrowed`, by computation alone. `fin s m e` is ± m * 2 ^ e, and `negsuc k` is -(k + 1). Assumes nothing.
+-- Worked examples of `narrowed`, and of the laws of floats in binary32, by computation alone. `fin s m e` is ± m * 2 ^ e, and `negsuc k` is -(k + 1). Assumes nothing.
 use mathlib.Core.Path.{_≡_, refl}
 use mathlib.Core.Bool.{true, false}
 use lib.IntN.{pos, negsuc}
-use lib.Ieee.{nan, inf, fin, binary32, binary64, isNan, ofBits, toBits}
+use lib.Ieee.{nan, inf, fin, binary32, binary64, add, mul, isNan, ofBits, toBits}
 use Rattle.rounding.specs.Narrow.{pattern, narrowedBits, narrowed}
 
 -- 1 + 2 ^ -24 lies half way between 1 and 1 + 2 ^ -23, and 1 is the even one
@@ -51,3 +51,24 @@ infinite = refl
 pub not-a-number : narrowed (ofBits binary64 0xfff0_0000_0000_0001) ≡ nan
 unfolding narrowed isNan ofBits
 not-a-number = refl
+
+-- ---- 1 × x and +0 + x
+-- 1 × x is x where x has fewer digits than binary32 keeps elsewhere: -5 * 2 ^ -149
+pub one-times-subnormal : mul binary32 (fin false 1 (pos 0)) (fin true 5 (negsuc 148)) ≡ fin true 5 (negsuc 148)
+unfolding mul
+one-times-subnormal = refl
+
+-- but not where binary32 does not hold x: 1 + 2 ^ -24
+pub one-times-wider : mul binary32 (fin false 1 (pos 0)) (fin false 16777217 (negsuc 23)) ≡ fin false 1 (pos 0)
+unfolding mul
+one-times-wider = refl
+
+-- +0 + x is x for the negative value nearest to 0, -2 ^ -149
+pub zero-plus-smallest : add binary32 (fin false 0 (pos 0)) (fin true 1 (negsuc 148)) ≡ fin true 1 (negsuc 148)
+unfolding add
+zero-plus-smallest = refl
+
+-- but not for -0
+pub zero-plus-minus-zero : add binary32 (fin false 0 (pos 0)) (fin true 0 (pos 0)) ≡ fin false 0 (pos 0)
+unfolding add
+zero-plus-minus-zero = refl

@@ -1,21 +1,21 @@
 -- The laws of `rounded`, the rounding by fractions: sign, order, values that it keeps, distance from the value, and where it overflows. Assumes nothing.
 use mathlib.Core.Path.{_≡_, refl, sym, ap, _∙_, subst}
-use mathlib.Core.Bool.{Bool, true, false, _&&_, cond}
-use Prim.Native.Nat.{ℕ, zero, suc, _+_, _-_, _*_, _/_, _%_, _^_, _≤_, _<_}
-use native.Mathlib.Nat.{le-trans, le-of-eq, le-of-suc-le-suc, lt-of-lt-of-le, lt-of-not-le, lt-irrefl, not-le-of-lt, zero-lt-suc, zero-mul, one-mul, mul-one, add-mul, mul-assoc, mul-comm, mul-right-comm, mul-pos, mul-le-mul-left, mul-le-mul-right, mul-lt-mul-of-pos-right, lt-of-mul-lt-mul-right, div-lt-iff-lt-mul}
+use mathlib.Core.Bool.{Bool, true, false, cond}
+use Prim.Native.Nat.{ℕ, zero, suc, _+_, _-_, _*_, _/_, _^_, _≤_, _<_}
+use native.Mathlib.Nat.{le-trans, le-of-eq, lt-of-lt-of-le, lt-irrefl, zero-lt-suc, mul-one, add-mul, mul-assoc, mul-comm, mul-right-comm, mul-pos, mul-le-mul-left, mul-le-mul-right, mul-lt-mul-of-pos-right, lt-of-mul-lt-mul-right, div-lt-iff-lt-mul}
 use native.Mathlib.Omega.{arith}
-use lib.Dec.{T, leb, ltb, eqb, eqb→eq, ltb→lt, leb→le, lit<, lit≤}
-use lib.IntN.{ℤ, pos, negsuc}
-use lib.Pow.{pow-add, pow-pos, pow-mono, pow-lt}
+use lib.Dec.{T, ltb, eqb, eqb→eq, lit≤}
+use lib.IntN.{ℤ}
+use lib.Pow.{pow-pos, pow-mono}
 use lib.Ieee.{Float, nan, inf, fin, binary32, binary64, up, down, size, odd, units, round, neg, le, fits}
-use lib.Ieee.Digits.{back, size-le}
-use lib.Ieee.Fits.{up-pos, down-pos, and-l, and-r, round-is, round-fits}
-use lib.Ieee.Exact.{HasValue, odd-sign, units-val, round-exact}
+use lib.Ieee.Digits.{size-le}
+use lib.Ieee.Fits.{up-pos, down-pos, and-l, and-r, round-is}
+use lib.Ieee.Exact.{HasValue, odd-sign, units-val}
 use lib.Ieee.Order.{drop, kept, round-mono}
 use lib.Ieee.Scale.{grid, finite}
 use Rattle.rounding.specs.Narrow.{rounded}
 use Rattle.rounding.proofs.Closest.{closest-half}
-use Rattle.rounding.proofs.Units.{value-unique}
+use Rattle.rounding.proofs.Own.{round-own}
 use Rattle.rounding.proofs.Signs.{round-neg, round-signed, below-or-equal, neg-le, least, greatest, opposite-le}
 
 -- ---- the sign
@@ -26,52 +26,11 @@ rounded-neg (inf s) = refl
 rounded-neg (fin s m e) = round-neg binary32 s (m * up e) (down e)
 
 -- ---- what an f32 holds is unchanged
--- an exponent of at least -149: m * 2 ^ e is m * 2 ^ j units of 2 ^ -149
-in-units : (e : ℤ) → down e ≤ 2 ^ 149 → (j : ℕ) × ((m : ℕ) → m * up e * 2 ^ 149 ≡ m * 2 ^ j * down e)
-in-units (pos a) h = (a + 149, λ m. mul-assoc m (2 ^ a) (2 ^ 149) ∙ ap (λ (x : ℕ). m * x) (sym (pow-add 2 a 149)) ∙ sym (mul-one (m * 2 ^ (a + 149))))
-in-units (negsuc a) h =
-    let l : suc a ≤ 149 = le-of-suc-le-suc (lt-of-not-le (λ (g : 150 ≤ suc a). not-le-of-lt (pow-lt {i = 149} g) h)) in (
-      149 - suc a,
-      λ m.
-          ap (λ (x : ℕ). x * 2 ^ 149) (mul-one m)
-          ∙ ap (λ (x : ℕ). m * x) (ap (λ (x : ℕ). 2 ^ x) (sym (back 149 (suc a) l)) ∙ pow-add 2 (149 - suc a) (suc a))
-          ∙ sym (mul-assoc m (2 ^ (149 - suc a)) (2 ^ suc a)),
-    )
-
-finite-kept : (s : Bool) (m : ℕ) (e : ℤ) → T (fits binary32 (fin s m e)) → m < 2 ^ 24 → down e ≤ 2 ^ 149 → m * up e < 2 ^ 128 * down e
-    → rounded (fin s m e) ≡ fin s m e
-unfolding rounded
-finite-kept s m e f a b c =
-    let j = in-units e b .0 in
-    let v = in-units e b .1 m in
-    let l : m * up e * 2 ^ 149 < 2 ^ 277 * down e =
-    lt-of-lt-of-le (mul-lt-mul-of-pos-right c (pow-pos 149)) (le-of-eq (mul-right-comm (2 ^ 128) (down e) (2 ^ 149))) in
-    let top : m * 2 ^ j < 2 ^ 277 = lt-of-mul-lt-mul-right (down e) (subst (λ (x : ℕ). x < 2 ^ 277 * down e) v l) in
-    value-unique (round binary32 s (m * up e) (down e)) (fin s m e) s (m * up e) (down e) (down-pos e)
-    (round-fits binary32 s (m * up e) (down e)) f
-    (round-exact binary32 s (m * up e) (down e) m j (down-pos e) a top v) (refl, refl)
-
--- a zero is written with the exponent 0
-zero-exponent : (e : ℤ) → up e * down e ≡ 1 → down e ≤ 2 ^ 149
-zero-exponent (pos a) h = pow-pos 149
-zero-exponent (negsuc a) h = le-trans (le-of-eq (sym (one-mul (2 ^ suc a)) ∙ h)) (pow-pos 149)
-
 pub rounded-keeps : (x : Float) → T (fits binary32 x) → rounded x ≡ x
-unfolding fits
-rounded-keeps nan f = unfold rounded in refl
-rounded-keeps (inf s) f = unfold rounded in refl
-rounded-keeps (fin s zero e) f =
-    finite-kept s zero e f (lit< tt) (zero-exponent e (eqb→eq (up e * down e) 1 f))
-    (subst (λ (x : ℕ). x < 2 ^ 128 * down e) (sym (zero-mul (up e))) (mul-pos (pow-pos 128) (down-pos e)))
-rounded-keeps (fin s (suc m) e) f =
-    let A = eqb (suc m % 2) 1 in
-    let B = ltb (suc m) (2 ^ 24) in
-    let C = leb (down e) (2 ^ 149) in
-    let D = ltb (suc m * up e) (2 ^ 128 * down e) in
-    finite-kept s (suc m) e f
-    (ltb→lt (suc m) (2 ^ 24) (and-r A B (and-l (A && B) C (and-l (A && B && C) D f))))
-    (leb→le (down e) (2 ^ 149) (and-r (A && B) C (and-l (A && B && C) D f)))
-    (ltb→lt (suc m * up e) (2 ^ 128 * down e) (and-r (A && B && C) D f))
+unfolding rounded
+rounded-keeps nan f = refl
+rounded-keeps (inf s) f = refl
+rounded-keeps (fin s m e) f = round-own binary32 s m e f
 
 -- ---- the order
 -- a value that is not negative is at most a negative one only where both are zeros

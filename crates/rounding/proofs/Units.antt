@@ -1,58 +1,32 @@
 -- Values of an f32 in units of 2 ^ -149, and their bits. q units of 2 ^ k, of which `round` makes its result, are the pattern k * 2 ^ 23 + q:
--- a q of 2 ^ 24 carries into the exponent's field, up to the infinity's. And an f32 is determined by its sign and its size. Assumes nothing.
+-- a q of 2 ^ 24 carries into the exponent's field, up to the infinity's. Assumes nothing.
 use mathlib.Core.Path.{_≡_, refl, sym, ap, _∙_, subst}
 use mathlib.Core.Logic.{_⊎_, inl, inr}
 use mathlib.Core.Bool.{Bool, true, false, cond}
 use Prim.Native.Nat.{ℕ, _+_, _-_, _*_, _/_, _^_, _≤_, _<_}
-use native.Mathlib.Nat.{le-trans, le-of-eq, lt-of-lt-of-le, lt-of-le-of-lt, lt-of-not-le, not-le-of-lt, eq-or-lt-of-le, add-assoc, mul-comm, mul-assoc, mul-right-comm, mul-div-cancel, mul-le-mul-right}
+use native.Mathlib.Nat.{le-trans, le-of-eq, lt-of-lt-of-le, lt-of-le-of-lt, lt-of-not-le, not-le-of-lt, eq-or-lt-of-le, mul-comm, mul-assoc, mul-div-cancel, mul-le-mul-right}
 use native.Mathlib.Omega.{arith}
 use lib.Dec.{T, ltb, lit<}
 use lib.Arith.{le→nltb}
 use lib.Pow.{pow-add, pow-pos, pow-mono, pow-lt, shl-lt}
-use lib.IntN.{ℤ}
-use lib.Ieee.{Float, nan, inf, fin, binary32, up, down, size, odd, units, ofBits, toBits, fits}
+use lib.Ieee.{Float, inf, binary32, size, odd, units, ofBits, fits}
 use lib.Ieee.Digits.{size-lt, size-le}
-use lib.Ieee.Fits.{down-pos}
-use lib.Ieee.Nearest.{div-same}
 use lib.Ieee.Exact.{HasValue, units-val}
 use lib.Ieee.Bits.{ofBits-toBits, cond-no}
 use Rattle.rounding.proofs.Closest.{below-or-not}
+use Rattle.rounding.proofs.Own.{bits-of}
 
 -- the weight of the sign's bit, where it is set
 abbrev pub signBit : Bool → ℕ
 signBit s = cond s (2 ^ 31) 0
 
--- ---- how many digits a number has
-pub size-gt : (n j : ℕ) → 2 ^ j ≤ n → j < size n
-size-gt n j h = lt-of-not-le (λ (g : size n ≤ j). not-le-of-lt (lt-of-lt-of-le (size-lt n) (pow-mono g)) h)
-
--- ---- the bits of a finite value, from its size n in units of 2 ^ -149
+-- the bits below it, of n units
 abbrev fieldAndDigits : ℕ → ℕ
 fieldAndDigits n = (size n - 24) * 2 ^ 23 + n / 2 ^ (size n - 24)
 
-toBits-is : (s : Bool) (m : ℕ) (e : ℤ) → toBits binary32 (fin s m e) ≡ signBit s + fieldAndDigits (m * up e * 2 ^ 149 / down e)
-unfolding toBits
-toBits-is s m e =
-    let n = m * up e * 2 ^ 149 / down e in
-    add-assoc (signBit s) ((size n - 24) * 2 ^ 23) (n / 2 ^ (size n - 24))
-
-bits-of : (v : Float) (s : Bool) (a c : ℕ) → 0 < c → HasValue v s a c → toBits binary32 v ≡ signBit s + fieldAndDigits (a * 2 ^ 149 / c)
-bits-of nan s a c C h = absurd h
-bits-of (inf t) s a c C h = absurd h
-bits-of (fin t m e) s a c C h =
-    let p = m * up e * 2 ^ 149 in
-    let q = a * 2 ^ 149 in
-    let cross : p * c ≡ q * down e = mul-right-comm (m * up e) (2 ^ 149) c ∙ ap (λ (x : ℕ). x * 2 ^ 149) (h .1) ∙ mul-right-comm a (down e) (2 ^ 149) in
-    toBits-is t m e
-    ∙ ap (λ (t : Bool). signBit t + fieldAndDigits (p / down e)) (h .0)
-    ∙ ap (λ (n : ℕ). signBit s + fieldAndDigits n) (div-same p (down e) q c (down-pos e) C cross)
-
-pub value-unique : (x y : Float) (s : Bool) (a c : ℕ) → 0 < c → T (fits binary32 x) → T (fits binary32 y)
-    → HasValue x s a c → HasValue y s a c → x ≡ y
-value-unique x y s a c C f g h k =
-    sym (ofBits-toBits binary32 x f)
-    ∙ ap (ofBits binary32) (bits-of x s a c C h ∙ sym (bits-of y s a c C k))
-    ∙ ofBits-toBits binary32 y g
+-- ---- how many digits a number has
+pub size-gt : (n j : ℕ) → 2 ^ j ≤ n → j < size n
+size-gt n j h = lt-of-not-le (λ (g : size n ≤ j). not-le-of-lt (lt-of-lt-of-le (size-lt n) (pow-mono g)) h)
 
 -- ---- the field and the digits together are k * 2 ^ 23 + q
 pub within : (z k : ℕ) → z ≤ 24 + k → (k ≡ 0) ⊎ (23 + k < z) → z - 24 ≡ k
@@ -98,7 +72,7 @@ finite-pattern : (v : Float) (s : Bool) (q k : ℕ) → T (fits binary32 v) → 
 finite-pattern v s q k f h a o =
     ap (ofBits binary32)
     (sym
-    (bits-of v s (q * 2 ^ k) (2 ^ 149) (pow-pos 149) h
+    (bits-of binary32 v s (q * 2 ^ k) (2 ^ 149) (pow-pos 149) h
     ∙ ap (λ (n : ℕ). signBit s + fieldAndDigits n) (mul-div-cancel (q * 2 ^ k) (pow-pos 149))
     ∙ ap (λ (x : ℕ). signBit s + x) (fieldAndDigits-is q k a o)))
     ∙ ofBits-toBits binary32 v f
