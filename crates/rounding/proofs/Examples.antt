@@ -53,7 +53,7 @@ unfolding narrowed isNan ofBits
 not-a-number = refl
 
 -- ---- 1 × x and +0 + x
--- 1 × x is x where x has fewer digits than binary32 keeps elsewhere: -5 * 2 ^ -149
+-- 1 × x is x for a subnormal x too: -5 * 2 ^ -149
 pub one-times-subnormal : mul binary32 (fin false 1 (pos 0)) (fin true 5 (negsuc 148)) ≡ fin true 5 (negsuc 148)
 unfolding mul
 one-times-subnormal = refl

@@ -4,7 +4,7 @@ use mathlib.Core.Path.{_≡_, refl, sym, ap, _∙_, subst}
 use mathlib.Core.Logic.{inl, inr, _↔_}
 use mathlib.Core.Bool.{Bool, true, false, not, _&&_, _||_, true≢false}
 use Prim.Native.Nat.{ℕ, _+_, _-_, _*_, _/_, _^_, _≤_, _<_}
-use lib.Dec.{T, eqb, eqb→eq}
+use lib.Dec.{T, eqb, eqb→eq, lit≤}
 use lib.Ieee.{Float, nan, inf, fin, Format, binary32, binary64, size, round, neg, le, ne, fits, isNan, ofBits, toBits}
 use lib.Ieee.Fits.{and-l, and-r, eq→eqb, cond-fits, nan-fits, neg-fits, fits-widens}
 use lib.Ieee.Bits.{ofBits-toBits, ofBits-fits, nanBits-is, is-true}
@@ -15,7 +15,8 @@ use Rattle.rounding.specs.Narrow.{narrowedBits, narrowed, rounded, sameF
 use Rattle.rounding.proofs.Pattern.{bits-no-nan, narrowed-number}
 use Rattle.rounding.proofs.Fields.{rounded-value, number-rounded}
 use Rattle.rounding.proofs.Signs.{or-split, or-l}
-use Rattle.rounding.proofs.Rounded.{rounded-neg, rounded-keeps, rounded-mono, grid-half, round-value, round-finite, round-infinite}
+use Rattle.rounding.proofs.Errors.{grid-half, relative}
+use Rattle.rounding.proofs.Rounded.{rounded-neg, rounded-keeps, rounded-mono, round-value, round-finite, round-infinite}
 
 -- By bits and by fractions, with `round binary32`, it is the same rounding.
 pub narrowed-is : (x : Float) → T (fits binary64 x) → narrowed x ≡ rounded x
@@ -87,9 +88,13 @@ module _ (x : Float) (s : Bool) (a c : ℕ) (f : T (fits binary64 x)) (C : 0 < c
     count = grid binary32 a c;
     value = subst (λ (v : Float). HasValue v s (grid binary32 a c) (2 ^ 149)) (sym by-fraction)
         (round-value s a c (subst (λ (v : Float). T (finite v)) by-fraction t));
-    no-more = grid-half a c C .0;
-    no-less = grid-half a c C .1;
+    no-more = grid-half binary32 a c C .0;
+    no-less = grid-half binary32 a c C .1;
   }
+
+  -- So it is above the value by no more than a 2 ^ 24 th of it and half of 2 ^ -149.
+  pub narrowed-above : (h : HalfUnit (narrowed x) s a c) → 2 * (2 ^ 24 * (h .count * c)) ≤ 2 * (2 ^ 24 * (a * 2 ^ 149)) + (2 * (a * 2 ^ 149) + 2 ^ 24 * c)
+  narrowed-above h = relative 24 (a * 2 ^ 149) c (lit≤ tt) C (h .count * c) (a * 2 ^ 149) (h .no-more)
 
   -- It is finite below 2 ^ 128 - 2 ^ 103, and an infinity from there on.
   pub narrowed-finite : a < (2 ^ 128 - 2 ^ 103) * c → T (finite (narrowed x))

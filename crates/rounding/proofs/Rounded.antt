@@ -1,4 +1,4 @@
--- The laws of `rounded`, the rounding by fractions: sign, order, values that it keeps, distance from the value, and where it overflows. Assumes nothing.
+-- The laws of `rounded`, the rounding by fractions: sign, order, values that it keeps, the value of a finite result, and where it overflows. Assumes nothing.
 use mathlib.Core.Path.{_≡_, refl, sym, ap, _∙_, subst}
 use mathlib.Core.Bool.{Bool, true, false, cond}
 use Prim.Native.Nat.{ℕ, zero, suc, _+_, _-_, _*_, _/_, _^_, _≤_, _<_}
@@ -14,7 +14,7 @@ use lib.Ieee.Exact.{HasValue, odd-sign, units-val}
 use lib.Ieee.Order.{drop, kept, round-mono}
 use lib.Ieee.Scale.{grid, finite}
 use Rattle.rounding.specs.Narrow.{rounded}
-use Rattle.rounding.proofs.Closest.{closest-half}
+use Rattle.rounding.proofs.Errors.{grid-half}
 use Rattle.rounding.proofs.Own.{round-own}
 use Rattle.rounding.proofs.Signs.{round-neg, round-signed, below-or-equal, neg-le, least, greatest, opposite-le}
 
@@ -75,19 +75,7 @@ rounded-mono (fin false m e) (fin true n d) f g h =
     let z = zeros m e n d f g h in
     subst (λ (v : Float). T (le v (rounded (fin true n d)))) (sym (z .0)) (subst (λ (v : Float). T (le (fin false m e) v)) (sym (z .1)) h)
 
--- ---- the distance from the value
--- `grid` is a / c rounded, in units of 2 ^ -149: at most half of 2 ^ k from it, where k digits of its whole part are dropped
-pub grid-half : (a c : ℕ) → 0 < c
-    → (2 * (grid binary32 a c * c) ≤ 2 * (a * 2 ^ 149) + c * 2 ^ (size (a * 2 ^ 149 / c) - 24))
-    × (2 * (a * 2 ^ 149) ≤ 2 * (grid binary32 a c * c) + c * 2 ^ (size (a * 2 ^ 149 / c) - 24))
-grid-half a c C =
-    let n = a * 2 ^ 149 in
-    let k = drop 24 n c in
-    let q = kept 24 n c in
-    let e : q * (c * 2 ^ k) ≡ q * 2 ^ k * c =
-    ap (λ (x : ℕ). q * x) (mul-comm c (2 ^ k)) ∙ sym (mul-assoc q (2 ^ k) c) in
-    subst (λ (x : ℕ). (2 * x ≤ 2 * n + c * 2 ^ k) × (2 * n ≤ 2 * x + c * 2 ^ k)) e (closest-half n (c * 2 ^ k) (mul-pos C (pow-pos k)))
-
+-- ---- the value of a finite result
 units-value : (s : Bool) (q k : ℕ) → T (finite (units binary32 s q k)) → HasValue (units binary32 s q k) s (q * 2 ^ k) (2 ^ 149)
 unfolding units
 units-value s q k = go (ltb (q * 2 ^ k) (2 ^ 277))
@@ -117,7 +105,7 @@ grid-under a c C h =
     let z : size (n / c) ≤ 277 =
     size-le (n / c) 277 (div-lt-iff-lt-mul C .1 (lt-of-lt-of-le l (mul-le-mul-right c (lit≤ tt)))) in
     let u : c * 2 ^ (size (n / c) - 24) ≤ c * 2 ^ 253 = mul-le-mul-left c (pow-mono {j = 253} (few (size (n / c)) z)) in
-    lt-of-mul-lt-mul-right c (short (grid-half a c C .0) u l (sum t (2 ^ 253) (2 ^ 277) refl))
+    lt-of-mul-lt-mul-right c (short (grid-half binary32 a c C .0) u l (sum t (2 ^ 253) (2 ^ 277) refl))
   where
     few : (z : ℕ) → z ≤ 277 → z - 24 ≤ 253
     few z h = omega arith
