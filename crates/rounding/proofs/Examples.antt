@@ -1,8 +1,9 @@
--- Worked examples of `narrowed`, and of the laws of floats in binary32, by computation alone. `fin s m e` is ± m * 2 ^ e, and `negsuc k` is -(k + 1). Assumes nothing.
+-- Worked examples of `narrowed`, and of sums, products and quotients in binary32, by computation alone. `fin s m e` is ± m * 2 ^ e, and `negsuc k` is
+-- -(k + 1). Assumes nothing.
 use mathlib.Core.Path.{_≡_, refl}
 use mathlib.Core.Bool.{true, false}
 use lib.IntN.{pos, negsuc}
-use lib.Ieee.{nan, inf, fin, binary32, binary64, add, mul, isNan, ofBits, toBits}
+use lib.Ieee.{nan, inf, fin, binary32, binary64, add, mul, div, isNan, ofBits, toBits}
 use Rattle.rounding.specs.Narrow.{pattern, narrowedBits, narrowed}
 
 -- 1 + 2 ^ -24 lies half way between 1 and 1 + 2 ^ -23, and 1 is the even one
@@ -52,7 +53,7 @@ pub not-a-number : narrowed (ofBits binary64 0xfff0_0000_0000_0001) ≡ nan
 unfolding narrowed isNan ofBits
 not-a-number = refl
 
--- ---- 1 × x and +0 + x
+-- ---- `one-times` and `zero-plus`
 -- 1 × x is x for a subnormal x too: -5 * 2 ^ -149
 pub one-times-subnormal : mul binary32 (fin false 1 (pos 0)) (fin true 5 (negsuc 148)) ≡ fin true 5 (negsuc 148)
 unfolding mul
@@ -72,3 +73,19 @@ zero-plus-smallest = refl
 pub zero-plus-minus-zero : add binary32 (fin false 0 (pos 0)) (fin true 0 (pos 0)) ≡ fin false 0 (pos 0)
 unfolding add
 zero-plus-minus-zero = refl
+
+-- ---- a sum, a product and a quotient are the exact one, rounded
+-- 1 + 2 ^ -24 is off by about a 2 ^ 24 th
+pub sum-tie : add binary32 (fin false 1 (pos 0)) (fin false 1 (negsuc 23)) ≡ fin false 1 (pos 0)
+unfolding add
+sum-tie = refl
+
+-- 2 ^ -100 * 2 ^ -50 is off by half of the smallest value, and all of it is lost
+pub product-lost : mul binary32 (fin false 1 (negsuc 99)) (fin false 1 (negsuc 49)) ≡ fin false 0 (pos 0)
+unfolding mul
+product-lost = refl
+
+-- 1 / 3, by its bits
+pub third : div binary32 (fin false 1 (pos 0)) (fin false 3 (pos 0)) ≡ ofBits binary32 0x3eaa_aaab
+unfolding div ofBits
+third = refl
