@@ -1,5 +1,5 @@
-//! The reference: plan.rs and format.rs of the Rust mixer, unchanged, with stand-ins for what they import (../README.md) and a child module
-//! each that reads what is private.
+//! The reference: plan.rs and format.rs of the Rust mixer, and what else ../README.md lists, unchanged, with stand-ins for what they import and child
+//! modules that read what is private.
 #![allow(clippy::all)]
 
 pub mod dsp;
