@@ -1,4 +1,5 @@
-//! Stand-in for the crate serde: its two derives, which here make nothing. format.rs names serde in derives and their attributes only.
+//! Stand-in for the crate serde: its two derives, which here make nothing. format.rs and chain.rs name serde in
+//! derives and their attributes only.
 use proc_macro::TokenStream;
 
 #[proc_macro_derive(Serialize, attributes(serde))]
