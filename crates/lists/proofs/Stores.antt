@@ -20,6 +20,10 @@ module _ {A : Type 0} where
   part-take (suc k) n (suc m) [] h = refl
   part-take (suc k) n (suc m) (x ∷ xs) h = part-take k n m xs (omega arith)
 
+  -- a part of lists that have the same first m entries
+  pub part-same : (k n m : ℕ) (xs ys : List A) → take m xs ≡ take m ys → k + n ≤ m → part k n xs ≡ part k n ys
+  part-same k n m xs ys e h = sym (part-take k n m xs h) ∙ ap (part k n) e ∙ part-take k n m ys h
+
   -- below the length, what is read does not depend on the default
   pub getD-any : (xs : List A) (i : ℕ) (d e : A) → i < length xs → getD xs i d ≡ getD xs i e
   getD-any [] i d e h = absurd (not-suc-le-zero h)

@@ -1,11 +1,12 @@
 -- The check reads no more of the areas than the plan counts: the first index entries, the ids of the first nodes and the first step words.
 -- Areas that agree there have the same answer. Assumes nothing.
-use mathlib.Core.Path.{_≡_, refl, sym, ap, _∙_}
+use mathlib.Core.Path.{_≡_, refl}
 use mathlib.Core.Bool.{Bool, true, false}
 use mathlib.Core.List.{List}
 use Prim.Native.Nat.{ℕ, zero, suc, _+_, _<_}
 use native.Mathlib.Omega.{arith}
 use lib.ListN.{take}
+use Rattle.lists.proofs.Stores.{part-same}
 use Rattle.refusal.specs.Tests.{Test, first}
 use Rattle.refusal.specs.declared.Answer.{Answer}
 use Rattle.refusal.specs.declared.Answer.the-variants.{Accepted}
@@ -19,7 +20,7 @@ use Rattle.plan.specs.declared.Read.the-variants.{Found, Bad}
 use Rattle.plan.specs.Words.{readAt}
 use Rattle.plan.specs.Check.{idAmong, idTwice, named, outside, shares, used, firstOf, stepTests, stepsTests, checked}
 use Rattle.plan.specs.Sound.{Within, Inside}
-use Rattle.plan.proofs.Spans.{named-front, used-src, used-dst}
+use Rattle.plan.proofs.Spans.{used-src, used-dst}
 use Rattle.plan.proofs.Steps.{outside-none}
 
 -- ---- the ids
@@ -38,8 +39,8 @@ module _ (vs ws : List ℕ) where
 
 -- ---- the steps
 module _ (p : Plan) (xs ys : List ℕ) (e : take (p .indices) xs ≡ take (p .indices) ys) where
-  named-same : (s : Span) → Within (p .indices) s → named xs s ≡ named ys s
-  named-same s h = sym (named-front xs s (p .indices) h) ∙ ap (λ (l : List ℕ). named l s) e ∙ named-front ys s (p .indices) h
+  pub named-same : (s : Span) → Within (p .indices) s → named xs s ≡ named ys s
+  named-same s h = part-same (s .start) (s .len) (p .indices) xs ys e h
 
   -- of a step that is inside its tables
   pub shares-same : (s : Step) → Inside p s → shares xs s ≡ shares ys s
