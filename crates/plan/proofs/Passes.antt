@@ -4,7 +4,6 @@ use mathlib.Core.Path.{_≡_, refl, sym, ap, subst}
 use mathlib.Core.Bool.{true≢false}
 use mathlib.Core.List.{List}
 use Prim.Native.Nat.{ℕ, zero, suc, _+_}
-use native.Mathlib.Omega.{arith}
 use lib.ListN.{length}
 use Rattle.refusal.specs.Tests.{Test, NoneHolds}
 use Rattle.plan.specs.declared.Plan.{Plan}
@@ -14,7 +13,7 @@ use Rattle.plan.specs.declared.Read.the-variants.{Found, Bad}
 use Rattle.plan.specs.Words.{readAt, decodedFrom}
 use Rattle.plan.specs.Check.{stepTests, stepsTests}
 use Rattle.plan.specs.Sound.{Inside, Narrow, Apart, Each, Passes}
-use Rattle.plan.proofs.Words.{decoded-on, decoded-bad}
+use Rattle.plan.proofs.Words.{decoded-on, readable-turn}
 use Rattle.plan.proofs.Steps.{outside-none, wide-none, shares-none}
 
 -- a list of n steps that are sound
@@ -63,20 +62,15 @@ module _ (p : Plan) (indices w : List ℕ) where
 
   pub all-passes : (n at : ℕ) → All p indices n (decodedFrom w n at) → Passes p indices w n at
   all-passes zero at a = tt
-  all-passes (suc n) at a = go (readAt w at) refl (λ next. all-passes n next)
-    where
-      go : (r : Read) → readAt w at ≡ r → ((next : ℕ) → All p indices n (decodedFrom w n next) → Passes p indices w n next) → Passes p indices w (suc n) at
-      go (Found s next) e ih =
-          let b = subst (All p indices (suc n)) (decoded-on w at {left = suc n} {more = n} refl e) a in
-          record {
-            step = s;
-            next = next;
-            read = e;
-            inside = outside-none p s .1 (b .inside .0);
-            narrow = wide-none s .1 (b .narrow .0);
-            apart = shares-none indices s .1 (b .apart .0);
-            rest = ih next (record { readable = omega (arith, b .readable); inside = b .inside .1; narrow = b .narrow .1; apart = b .apart .1 });
-          }
-      go Bad e ih =
-          let b = subst (All p indices (suc n)) (decoded-bad w at {left = suc n} {more = n} refl e) a in
-          absurd (omega (arith, b .readable))
+  all-passes (suc n) at a =
+      let t = readable-turn w n at (a .readable) in
+      let b = subst (All p indices (suc n)) (decoded-on w at {left = suc n} {more = n} refl (t .read)) a in
+      record {
+        step = t .step;
+        next = t .next;
+        read = t .read;
+        inside = outside-none p (t .step) .1 (b .inside .0);
+        narrow = wide-none (t .step) .1 (b .narrow .0);
+        apart = shares-none indices (t .step) .1 (b .apart .0);
+        rest = all-passes n (t .next) (record { readable = t .rest; inside = b .inside .1; narrow = b .narrow .1; apart = b .apart .1 });
+      }

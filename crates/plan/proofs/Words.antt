@@ -12,6 +12,7 @@ use borrow.Author.Tests.{lt-ltb, le-ltb, le-leb, lt-leb, ne-eqb}
 use Rattle.plan.specs.declared.Span.{Span}
 use Rattle.plan.specs.declared.Step.{Step}
 use Rattle.plan.specs.declared.Step.the-variants.{Patch, Gain, Matrix, Clear, Send, Output}
+use Rattle.plan.specs.declared.Read.{Read}
 use Rattle.plan.specs.declared.Read.the-variants.{Found, Bad}
 use Rattle.plan.specs.Words.{patchMap, gainMap, matrixMap, clearMap, sendMap, outputMap, fieldBits, fields, stepOf, readAt, decodedFrom, decoded}
 use Rattle.plan.specs.Records.{word, patchAt, gainAt, matrixAt, clearAt, sendAt, outputAt}
@@ -188,3 +189,17 @@ decoded-none w at e = ap (λ (k : ℕ). decodedFrom w k at) e
 pub decoded-start : (w : List ℕ) (n : ℕ) → decoded w n ≡ decodedFrom w n 0
 unfolding decoded
 decoded-start w n = refl
+
+-- the first of n + 1 steps that can all be read
+pub record Turn (w : List ℕ) (n at : ℕ) : Type 0 where
+  pub step : Step
+  pub next : ℕ
+  pub read : readAt w at ≡ Found step next
+  pub rest : length (decodedFrom w n next) ≡ n
+
+pub readable-turn : (w : List ℕ) (n at : ℕ) → length (decodedFrom w (suc n) at) ≡ suc n → Turn w n at
+readable-turn w n at e = go (readAt w at) refl
+  where
+    go : (r : Read) → readAt w at ≡ r → Turn w n at
+    go (Found s next) r = record { step = s; next = next; read = r; rest = omega (arith, e, ap length (decoded-on w at {left = suc n} {more = n} refl r)) }
+    go Bad r = absurd (omega (arith, e, ap length (decoded-bad w at {left = suc n} {more = n} refl r)))
