@@ -16,6 +16,8 @@ pub mod Named
 pub mod Answers
 -- the channels that the steps append to the output, counted step by step
 pub mod Counting
+-- steps that are read in two parts
+pub mod Parts
 -- the steps one by one and as a list
 pub mod Passes
 -- the check accepts the sound plans and no other, and refuses by the first test that holds
