@@ -26,6 +26,8 @@ pub mod Exact
 pub mod Accepted
 -- the check reads no more of the areas than the plan counts
 pub mod Front
+-- the steps of a plan whose tables have grown
+pub mod Grown
 -- words after the last step are ignored
 pub mod After
 -- document 01's case 11
