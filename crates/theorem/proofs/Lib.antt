@@ -17,6 +17,8 @@ pub mod Settings
 pub mod Runs
 -- two lists of two plans that are the same
 pub mod Pairs
+-- two lists for blocks as long, run by run
+pub mod Lockstep
 -- two builds of the same calls
 pub mod Drafts
 -- what the check, the clean answer and the trace say of both

@@ -87,10 +87,14 @@ module _ (n : ℕ) where
             ∙ sym (List·getD-append (take n (lookup directory samples i c)) (carried n i c es) nan t (rw len k))
         go false e ih = let k = ltb-false t n e in ih k ∙ sym (later n (take n (lookup directory samples i c)) (carried n i c es) t len k)
 
--- an input that carries equal samples is heard alike at every sample
+-- channel c of input i carries equal samples in two journals, for blocks of a and of b
+abbrev pub CarryEqual : (a b i c : ℕ) → List Entry → List Entry → Type 0
+CarryEqual a b i c es₁ es₂ =
+    (Absent a i c es₁ × Absent b i c es₂) ⊎ (Whole a i c es₁ × Whole b i c es₂ × (carried a i c es₁ ≡ carried b i c es₂))
+
+-- and so it is heard alike at every sample
 pub carried-heard : (a b : ℕ) (steps₁ steps₂ : List Resolved) (i c : ℕ) (es₁ es₂ : List Entry) (ns₁ ns₂ : List Node)
-    → ((Absent a i c es₁ × Absent b i c es₂) ⊎ (Whole a i c es₁ × Whole b i c es₂ × (carried a i c es₁ ≡ carried b i c es₂)))
-    → (t : ℕ) → t < total a es₁ → t < total b es₂
+    → CarryEqual a b i c es₁ es₂ → (t : ℕ) → t < total a es₁ → t < total b es₂
     → heard a steps₁ i c (momentAt a steps₁ ns₁ es₁ t) ≡ heard b steps₂ i c (momentAt b steps₂ ns₂ es₂ t)
 carried-heard a b steps₁ steps₂ i c es₁ es₂ ns₁ ns₂ (inl h) t l₁ l₂ =
     absent-heard a steps₁ i c es₁ ns₁ t l₁ (h .0) ∙ sym (absent-heard b steps₂ i c es₂ ns₂ t l₂ (h .1))

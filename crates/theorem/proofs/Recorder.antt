@@ -1,7 +1,7 @@
 -- What follows for the recorder: an input that can change a sample of output s in an accepted run of a clean plan is in the list for s.
 -- Assumes nothing.
-use mathlib.Core.Path.{_≡_, refl, sym, ap, _∙_, subst}
-use mathlib.Core.Logic.{_⊎_, inl, inr}
+use mathlib.Core.Path.{_≡_, refl, sym, ap, _∙_}
+use mathlib.Core.Logic.{inl, inr}
 use mathlib.Core.Bool.{Bool, true, false, true≢false}
 use mathlib.Core.List.{List, [], _∷_, _++_, append-nil}
 use Prim.Native.Nat.{ℕ}
@@ -10,17 +10,14 @@ use Rattle.lists.specs.Entries.{has}
 use Rattle.refusal.specs.Tests.{outcome}
 use Rattle.refusal.specs.declared.Answer.{Answer}
 use Rattle.refusal.specs.declared.Answer.the-variants.{Accepted}
-use Rattle.plan.specs.Resolved.{Resolved, output}
-use Rattle.trace.specs.Sources.{noSources, behind}
-use Rattle.trace.specs.Clean.{noneWritten, cleanFrom}
 use Rattle.run.specs.Run.{processed}
-use Rattle.run.specs.Calls.{Fixed, Held, run, givenTo, start, answer, after, stepsOfPlan}
-use Rattle.theorem.specs.Journal.{Entry, ran, journal, Absent, Whole, carried}
+use Rattle.run.specs.Calls.{Fixed, Held, run, givenTo, start, answer, stepsOfPlan}
+use Rattle.theorem.specs.Journal.{Entry, ran, journal}
 use Rattle.theorem.specs.Statement.{Channel}
 use Rattle.theorem.specs.Traced.{IsClean, listFor}
 use Rattle.theorem.specs.Recorder.{Inputs, block, SameInput, blockAt, Changes}
-use Rattle.theorem.proofs.Block.{Within}
-use Rattle.theorem.proofs.Pairs.{SamePlan, written-same}
+use Rattle.theorem.proofs.Moments.{CarryEqual}
+use Rattle.theorem.proofs.Lockstep.{written-same}
 use Rattle.theorem.proofs.CleanPlans.{clean-sound, clean-steps, all-listed}
 
 module _ (f : Fixed) (h : Held) (out : List Float) where
@@ -35,9 +32,7 @@ module _ (f : Fixed) (h : Held) (out : List Float) where
   one-entry x e = ap (λ (t : Answer). outcome t (entryOf x ∷ []) (λ _. [])) e
 
   -- an input that is the same in both runs, as journals of one run have it
-  carried-same : (x y : Inputs) (j c : ℕ) → SameInput f h out x y j c
-      → (Absent n j c (entryOf x ∷ []) × Absent n j c (entryOf y ∷ []))
-      ⊎ (Whole n j c (entryOf x ∷ []) × Whole n j c (entryOf y ∷ []) × (carried n j c (entryOf x ∷ []) ≡ carried n j c (entryOf y ∷ [])))
+  carried-same : (x y : Inputs) (j c : ℕ) → SameInput f h out x y j c → CarryEqual n n j c (entryOf x ∷ []) (entryOf y ∷ [])
   carried-same x y j c (inl p) = inl ((p .0, tt), (p .1, tt))
   carried-same x y j c (inr p) = inr ((p .0, tt), (p .1, tt), ap (λ (u : List Float). u ++ []) (p .2))
 
@@ -46,21 +41,13 @@ module _ (f : Fixed) (h : Held) (out : List Float) where
     unlisted-same e =
         let x = change .one in
         let y = change .other in
-        let before = ch .before in
-        let src = ch .src in
-        let after = ch .after in
-        let split : stepsOfPlan f ≡ before ++ output src s ∷ after = ch .split in
-        let same : SamePlan f f (before ++ output src s ∷ after) = record { steps₁ = split; steps₂ = split; count = refl; buffers = refl } in
-        let is-clean : cleanFrom noneWritten (before ++ output src s ∷ after) ≡ true = ap (cleanFrom noneWritten) (sym split) ∙ clean-steps f (h .words) clean in
-        let within : Within (behind s noSources (before ++ output src s ∷ after)) (has (listFor f s)) =
-        subst (λ (xs : List Resolved). Within (behind s noSources xs) (has (listFor f s))) split (all-listed f (h .words) clean s) in
         let es = one-entry x (change .one-accepted) in
         let fs = one-entry y (change .other-accepted) in
-        let equal = written-same f f before src s after (ch .c) (ch .inside) same is-clean h h (run (x .directory) (x .samples) out ∷ []) (run (y .directory) (y .samples) out ∷ [])
-        (clean-sound f (h .words) clean .block-least) refl
-        (rw (es, fs) refl) (rw (es, fs) refl) (λ differ. absurd (differ refl)) (has (listFor f s)) within
+        let equal = written-same f f (record { steps = refl; buffers = refl }) (clean-steps f (h .words) clean) s q ch (has (listFor f s)) (all-listed f (h .words) clean s)
+        (clean-sound f (h .words) clean .block-least) h h (record { nodes = refl }) (run (x .directory) (x .samples) out ∷ []) (run (y .directory) (y .samples) out ∷ [])
+        (rw (es, fs) refl) (rw (es, fs) refl) (λ differ. absurd (differ refl))
         (rw (es, fs) (λ j c p. carried-same x y j c (change .same-but j c (λ z. true≢false (sym p ∙ ap (has (listFor f s)) z ∙ e))))) in
-        let parts = rw (es, fs, ← ch .place) at (equal .1) in
+        let parts = rw (es, fs) at (equal .1) in
         sym (append-nil (blockAt f h out x q)) ∙ parts ∙ append-nil (blockAt f h out y q)
 
     -- The corollary.

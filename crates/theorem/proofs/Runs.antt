@@ -14,6 +14,7 @@ use borrow.Author.Tests.{ltb-true, ltb-false}
 use Rattle.lists.specs.Parts.{part}
 use Rattle.lists.proofs.Stores.{length-part}
 use Rattle.refusal.specs.Tests.{outcome}
+use Rattle.refusal.specs.declared.Refusal.{Refusal}
 use Rattle.refusal.specs.declared.Answer.{Answer}
 use Rattle.refusal.specs.declared.Answer.the-variants.{Accepted, Refused}
 use Rattle.node.specs.declared.Node.{Node}
@@ -31,12 +32,12 @@ use Rattle.plan.proofs.Accepted.{span-length, span-below}
 use Rattle.plan.proofs.Exact.{accepted-sound}
 use Rattle.input.specs.Input.{lookup}
 use Rattle.run.specs.Run.{Given, State, runSteps, outputChannels, processed}
-use Rattle.run.specs.Calls.{Fixed, Held, Call, set, run, givenTo, start, answer, after, stepsOfPlan}
+use Rattle.run.specs.Calls.{Fixed, Held, held, Call, set, run, givenTo, start, answer, after, stepsOfPlan}
 use Rattle.run.proofs.Answers.{accepted-runs}
 use Rattle.run.proofs.Admitted.{areas-of, admitted, output-needs}
 use Rattle.run.proofs.States.{run-lengths}
 use Rattle.run.proofs.Ready.{refused-run, refused-set}
-use Rattle.theorem.specs.Journal.{Entry, setting, ran, journal, total, written}
+use Rattle.theorem.specs.Journal.{Entry, entry, journal, total, written}
 use Rattle.theorem.proofs.Agree.{All}
 use Rattle.theorem.proofs.Steps.{InPlan}
 use Rattle.theorem.proofs.Block.{Every}
@@ -61,6 +62,26 @@ module _ (p : Plan) (indices : List ℕ) (coefficients : List Float) (l : IndexL
   all-in-plan (Clear d ∷ ss) o = (span-all d (o .0), all-in-plan ss (o .1))
   all-in-plan (Send n s d c ∷ ss) o = ((o .0 .0, span-all d (o .0 .2)), all-in-plan ss (o .1))
   all-in-plan (Output s o′ ∷ ss) o = (tt, all-in-plan ss (o .1))
+
+-- ---- a journal, entry by entry: each was accepted in the state that those before it left
+pub data Went (f : Fixed) : Held → List Entry → Type 0 where
+  none : {h : Held} → Went f h []
+  then : {h : Held} {es : List Entry} (c : Call) → answer f h c ≡ Accepted → Went f (after f h c) es → Went f h (entry f h c ∷ es)
+
+refused-call : (f : Fixed) (h : Held) (c : Call) (r : Refusal) → answer f h c ≡ Refused r → after f h c ≡ h
+refused-call f h (set id values ramp) r e = refused-set f h id values ramp r e
+refused-call f h (run directory samples out) r e = ap held (refused-run f h directory samples out r e)
+
+pub went : (f : Fixed) (cs : List Call) (h : Held) → Went f h (journal f h cs)
+went f [] h = none
+went f (c ∷ cs) h = go (answer f h c) refl (went f cs (after f h c))
+  where
+    es : List Entry
+    es = journal f (after f h c) cs
+
+    go : (a : Answer) → answer f h c ≡ a → Went f (after f h c) es → Went f h (outcome a (entry f h c ∷ es) (λ _. es))
+    go Accepted e w = then c e w
+    go (Refused r) e w = subst (λ (x : Held). Went f x es) (refused-call f h c r e) w
 
 -- ---- an accepted run
 module _ (f : Fixed) where
@@ -100,7 +121,7 @@ module _ (f : Fixed) where
           in-plan = all-in-plan (f .plan) (f .indices) (f .coefficients) (a .fit .list) (stepsOf (f .plan) (f .steps)) (sound .inside);
         }
 
-    nodes-then : nodesOf (after f h (run directory samples out)) ≡ nodesAfter n steps (nodesOf h)
+    pub nodes-then : nodesOf (after f h (run directory samples out)) ≡ nodesAfter n steps (nodesOf h)
     nodes-then =
         ap (λ (t : State). nodes (f .plan .nodes) (t .floats) (t .words)) (accepted-runs g s e)
         ∙ run-nodes (f .plan .nodes) (f .plan .buffers) n (lookup directory samples) steps s (run-fits .in-plan) (run-fits .room)
@@ -130,94 +151,50 @@ module _ (f : Fixed) where
           let l = run-lengths n (lookup directory samples) steps (start f h out) .output in
           reach (length left) (rw (output-is, l) (run-fits h directory samples out e .output))
 
-      part-length : length (part (q * n) n left) ≡ n
+      pub part-length : length (part (q * n) n left) ≡ n
       part-length = length-part (q * n) n left long
 
-      part-sample : (t : ℕ) → t < n → getD (part (q * n) n left) t nan ≡ sample n (runSteps n (lookup directory samples) steps (start f h out) .output) q t
-      part-sample t k =
-          getD-take n (drop (q * n) left) t nan k ∙ getD-drop (q * n) left t nan
-          ∙ ap (λ (o : List Float). getD o (q * n + t) nan) output-is
-
-      first-run : (rest : List Float) (t : ℕ) → t < n → RunAt (moment (nodesOf h) t (lookup directory samples)) (getD (part (q * n) n left ++ rest) t nan)
-      first-run rest t k =
+      pub run-sample : (t : ℕ) → t < n → RunAt (moment (nodesOf h) t (lookup directory samples)) (getD (part (q * n) n left) t nan)
+      run-sample t k =
           record {
             state = start f h out;
             fits = run-fits h directory samples out e;
             nodes-are = refl;
             offset = k;
-            sample-is = List·getD-append (part (q * n) n left) rest nan t (rw part-length k) ∙ part-sample t k;
+            sample-is =
+                getD-take n (drop (q * n) left) t nan k ∙ getD-drop (q * n) left t nan
+                ∙ ap (λ (o : List Float). getD o (q * n + t) nan) output-is;
           }
 
-    -- ---- a list of calls
+    -- ---- a journal
 
-    pub length-written : (cs : List Call) (h : Held) → length (written n q (journal f h cs)) ≡ total n (journal f h cs)
-    length-written [] h = refl
-    length-written (set id values ramp ∷ cs) h = go (answer f h (set id values ramp)) (length-written cs (after f h (set id values ramp)))
+    pub length-written : {h : Held} {es : List Entry} → Went f h es → length (written n q es) ≡ total n es
+    length-written none = refl
+    length-written (then (set id values ramp) e w) = length-written w
+    length-written {h} (then {es = es} (run directory samples out) e w) =
+        length-append (part (q * n) n (left h directory samples out e)) (written n q es) ∙ rw (part-length h directory samples out e, length-written w)
+
+    pub run-at : {h : Held} {es : List Entry} → Went f h es → (t : ℕ) → t < total n es
+        → RunAt (momentAt n steps (nodesOf h) es t) (getD (written n q es) t nan)
+    run-at none t l = absurd (not-suc-le-zero l)
+    run-at {h} (then {es = es} (set id values ramp) e w) t l =
+        subst (λ (ns : List Node). RunAt (momentAt n steps ns es t) (getD (written n q es) t nan)) (set-nodes (f .plan .nodes) (h .floats) (h .words) id ramp values e)
+        (run-at w t l)
+    run-at {h} (then {es = es} (run directory samples out) e w) t l = go (ltb t n) refl (λ k. run-at w (t - n) (omega arith))
       where
-        es : List Entry
-        es = journal f (after f h (set id values ramp)) cs
-
-        go : (a : Answer) → length (written n q es) ≡ total n es
-            → length (written n q (outcome a (setting id ramp values ∷ es) (λ _. es))) ≡ total n (outcome a (setting id ramp values ∷ es) (λ _. es))
-        go Accepted ih = ih
-        go (Refused r) ih = ih
-    length-written (run directory samples out ∷ cs) h = go (answer f h (run directory samples out)) refl (length-written cs (after f h (run directory samples out)))
-      where
-        es : List Entry
-        es = journal f (after f h (run directory samples out)) cs
-
         o : List Float
-        o = processed (givenTo f directory samples) (start f h out) .output
+        o = left h directory samples out e
 
-        go : (a : Answer) → answer f h (run directory samples out) ≡ a → length (written n q es) ≡ total n es
-            → length (written n q (outcome a (ran directory samples o ∷ es) (λ _. es))) ≡ total n (outcome a (ran directory samples o ∷ es) (λ _. es))
-        go Accepted e ih = length-append (part (q * n) n o) (written n q es) ∙ rw (part-length h directory samples out e, ih)
-        go (Refused r) e ih = ih
+        rest : List Node → Moment
+        rest ns = momentAt n steps ns es (t - n)
 
-    pub run-at : (cs : List Call) (h : Held) (t : ℕ) → t < total n (journal f h cs)
-        → RunAt (momentAt n steps (nodesOf h) (journal f h cs) t) (getD (written n q (journal f h cs)) t nan)
-    run-at [] h t l = absurd (not-suc-le-zero l)
-    run-at (set id values ramp ∷ cs) h t l = go (answer f h (set id values ramp)) refl (run-at cs (after f h (set id values ramp)) t) l
-      where
-        h′ : Held
-        h′ = after f h (set id values ramp)
-
-        es : List Entry
-        es = journal f h′ cs
-
-        go : (a : Answer) → answer f h (set id values ramp) ≡ a → (t < total n es → RunAt (momentAt n steps (nodesOf h′) es t) (getD (written n q es) t nan))
-            → t < total n (outcome a (setting id ramp values ∷ es) (λ _. es))
-            → RunAt (momentAt n steps (nodesOf h) (outcome a (setting id ramp values ∷ es) (λ _. es)) t) (getD (written n q (outcome a (setting id ramp values ∷ es) (λ _. es))) t nan)
-        go Accepted e ih l =
-            subst (λ (ns : List Node). RunAt (momentAt n steps ns es t) (getD (written n q es) t nan)) (set-nodes (f .plan .nodes) (h .floats) (h .words) id ramp values e) (ih l)
-        go (Refused r) e ih l =
-            subst (λ (x : Held). RunAt (momentAt n steps (nodesOf x) es t) (getD (written n q es) t nan)) (refused-set f h id values ramp r e) (ih l)
-    run-at (run directory samples out ∷ cs) h t l = go (answer f h (run directory samples out)) refl (run-at cs (after f h (run directory samples out))) l
-      where
-        h′ : Held
-        h′ = after f h (run directory samples out)
-
-        es : List Entry
-        es = journal f h′ cs
-
-        o : List Float
-        o = processed (givenTo f directory samples) (start f h out) .output
-
-        this : Moment
-        this = moment (nodesOf h) t (lookup directory samples)
-
-        go : (a : Answer) → answer f h (run directory samples out) ≡ a → ((t : ℕ) → t < total n es → RunAt (momentAt n steps (nodesOf h′) es t) (getD (written n q es) t nan))
-            → t < total n (outcome a (ran directory samples o ∷ es) (λ _. es))
-            → RunAt (momentAt n steps (nodesOf h) (outcome a (ran directory samples o ∷ es) (λ _. es)) t) (getD (written n q (outcome a (ran directory samples o ∷ es) (λ _. es))) t nan)
-        go Accepted e ih l = by (ltb t n) refl
-          where
-            by : (r : Bool) → ltb t n ≡ r
-                → RunAt (cond r (moment (nodesOf h) t (lookup directory samples)) (momentAt n steps (nodesAfter n steps (nodesOf h)) es (t - n))) (getD (part (q * n) n o ++ written n q es) t nan)
-            by true b = first-run h directory samples out e (written n q es) t (ltb-true t n b)
-            by false b =
-                let k : n ≤ t = ltb-false t n b in
-                subst (λ (y : Float). RunAt (momentAt n steps (nodesAfter n steps (nodesOf h)) es (t - n)) y) (sym (later n (part (q * n) n o) (written n q es) t (part-length h directory samples out e) k))
-                (subst (λ (ns : List Node). RunAt (momentAt n steps ns es (t - n)) (getD (written n q es) (t - n) nan)) (nodes-then h directory samples out e) (ih (t - n) (omega arith)))
-        go (Refused r) e ih l =
-            subst (λ (x : List Node). RunAt (momentAt n steps x es t) (getD (written n q es) t nan))
-            (ap (λ (x : State). nodes (f .plan .nodes) (x .floats) (x .words)) (refused-run f h directory samples out r e)) (ih t l)
+        go : (r : Bool) → ltb t n ≡ r → (n ≤ t → RunAt (rest (nodesOf (after f h (run directory samples out)))) (getD (written n q es) (t - n) nan))
+            → RunAt (cond r (moment (nodesOf h) t (lookup directory samples)) (rest (nodesAfter n steps (nodesOf h)))) (getD (part (q * n) n o ++ written n q es) t nan)
+        go true b ih =
+            let k : t < n = ltb-true t n b in
+            subst (λ (y : Float). RunAt (moment (nodesOf h) t (lookup directory samples)) y)
+            (sym (List·getD-append (part (q * n) n o) (written n q es) nan t (rw (part-length h directory samples out e) k))) (run-sample h directory samples out e t k)
+        go false b ih =
+            let k : n ≤ t = ltb-false t n b in
+            subst (λ (y : Float). RunAt (rest (nodesAfter n steps (nodesOf h))) y) (sym (later n (part (q * n) n o) (written n q es) t (part-length h directory samples out e) k))
+            (subst (λ (ns : List Node). RunAt (rest ns) (getD (written n q es) (t - n) nan)) (nodes-then h directory samples out e) (ih k))
