@@ -2,24 +2,22 @@
 -- that it is inside its tables, narrow and apart, with the buffers that its spans name. Assumes nothing.
 use mathlib.Core.Path.{_≡_, sym, _∙_, subst}
 use mathlib.Core.Bool.{Bool}
-use mathlib.Core.List.{List}
-use Prim.Native.Nat.{ℕ, suc, _≤_, _<_}
-use native.Mathlib.Omega.{arith}
-use lib.ListN.{length, getD}
-use Rattle.lists.proofs.Entries.{some-none, entries-none}
+use mathlib.Core.List.{List, [], _∷_}
+use Prim.Native.Nat.{ℕ, suc, _≤_}
+use lib.ListN.{length}
+use Rattle.lists.proofs.Entries.{entries-none}
 use Rattle.refusal.specs.declared.Answer.the-variants.{Accepted}
 use Rattle.plan.specs.declared.Plan.{Plan}
-use Rattle.plan.specs.declared.Span.{Span}
 use Rattle.plan.specs.declared.Step.{Step}
 use Rattle.plan.specs.declared.Read.the-variants.{Found}
 use Rattle.plan.specs.Limits.{unitLimits}
 use Rattle.plan.specs.Areas.{Areas, shortAreas, shortLists}
 use Rattle.plan.specs.Words.{readAt}
-use Rattle.plan.specs.Check.{named, checked, checkPlan}
-use Rattle.plan.specs.Sound.{Within, Inside, Narrow, Apart, IndexList, Pass, Passes}
+use Rattle.plan.specs.Check.{checked, checkPlan}
+use Rattle.plan.specs.Sound.{Inside, Narrow, Apart, IndexList, Pass, Passes, Placed, Each}
 use Rattle.plan.proofs.Plans.{WithinLimits, Room, ListRoom, areas-none, lists-none}
-use Rattle.plan.proofs.Spans.{length-named, named-below}
-use Rattle.plan.proofs.Steps.{outside-none, wide-none, shares-none}
+use Rattle.plan.proofs.Spans.{names}
+use Rattle.plan.proofs.Steps.{outside-none, wide-none, shares-none, inside-by}
 use Rattle.plan.proofs.Exact.{accepted-sound}
 
 -- ---- the plan
@@ -49,6 +47,14 @@ pub accepted-lists : (p : Plan) (indices words steps : List ℕ) → checked p (
 accepted-lists p indices words steps e =
     lists-none p indices words steps .0 (accepted-sound p (shortLists p indices words steps) indices words steps e .areas)
 
+-- ---- steps inside the tables of an index list that was tested
+pub placed : (p : Plan) (indices : List ℕ) → IndexList p indices → (x : Step) → Inside p x → Placed p indices x
+placed p indices l x h = inside-by (names p indices l) (λ s w. w) p x h
+
+pub all-placed : (p : Plan) (indices : List ℕ) → IndexList p indices → (xs : List Step) → Each (Inside p) xs → Each (Placed p indices) xs
+all-placed p indices l [] h = tt
+all-placed p indices l (x ∷ xs) h = (placed p indices l x (h .0), all-placed p indices l xs (h .1))
+
 -- ---- a step that was read, where `left` of them pass, and `more` after it
 module _ (p : Plan) (indices w : List ℕ) (at : ℕ) {left more : ℕ} (e : left ≡ suc more) (f : Passes p indices w left at) where
   pass : Pass p indices w at (λ next. Passes p indices w more next)
@@ -62,6 +68,9 @@ module _ (p : Plan) (indices w : List ℕ) (at : ℕ) {left more : ℕ} (e : lef
     pass-inside =
         let q : s ≡ pass .step = cc same in
         rw q (outside-none p (pass .step) .0 (pass .inside))
+
+    pub pass-placed : IndexList p indices → Placed p indices s
+    pass-placed l = placed p indices l s pass-inside
 
     pub pass-narrow : Narrow s
     pass-narrow =
@@ -77,12 +86,3 @@ module _ (p : Plan) (indices w : List ℕ) (at : ℕ) {left more : ℕ} (e : lef
     pass-rest =
         let q : next ≡ pass .next = cc same in
         rw q (pass .rest)
-
--- ---- the buffers that a span of a step names
-module _ (p : Plan) (indices : List ℕ) (l : IndexList p indices) (s : Span) (h : Within (p .indices) s) where
-  pub span-length : length (named indices s) ≡ s .len
-  span-length = length-named indices s (omega arith)
-
-  pub span-below : (i : ℕ) → i < s .len → getD (named indices s) i 0 < p .buffers
-  span-below i k =
-      some-none (p .buffers) (named indices s) .0 (named-below indices s (p .buffers) (p .indices) (l .entries) h) i (omega (arith, span-length))

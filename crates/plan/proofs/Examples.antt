@@ -11,7 +11,7 @@ use Rattle.refusal.specs.declared.Answer.{Answer}
 use Rattle.refusal.specs.declared.Answer.the-variants.{Accepted, Refused}
 use Rattle.plan.specs.Areas.{areas}
 use Rattle.plan.specs.Words.{patchMap, matrixMap, stepOf, readAt}
-use Rattle.plan.specs.Check.{idAmong, idTwice, outside, tooWide, shares, stepsTests, checked, checkPlan}
+use Rattle.plan.specs.Check.{idAmong, idTwice, outside, outsideBy, tooWide, shares, stepsTests, checked, checkPlan}
 
 -- a block and nothing else
 abbrev blockOf : ℕ → Answer
@@ -34,11 +34,11 @@ matrixOf columns rows =
     (matrixMap ∷ 0 ∷ 0 ∷ columns ∷ columns ∷ rows ∷ []) (replicate 14 nan))
 
 pub case-11-matrix-taken : matrixOf 12 2 ≡ Accepted
-unfolding checked someFrom idAmong idTwice stepsTests readAt stepOf ones onesIn outside tooWide has meet shares
+unfolding checked someFrom idAmong idTwice stepsTests readAt stepOf ones onesIn outsideBy tooWide has meet shares
 case-11-matrix-taken = refl
 
 pub case-11-matrix-refused : matrixOf 5 5 ≡ Refused (refusal 7 1)
-unfolding checked someFrom idAmong idTwice stepsTests readAt stepOf ones onesIn outside tooWide
+unfolding checked someFrom idAmong idTwice stepsTests readAt stepOf ones onesIn outsideBy tooWide
 case-11-matrix-refused = refl
 
 -- a Patch of an input to the only buffer
@@ -48,9 +48,9 @@ patchOf input =
     (areas [] [] [] [] (patchMap ∷ input ∷ 0 ∷ 0 ∷ []) (nan ∷ []))
 
 pub case-11-input-taken : patchOf 255 ≡ Accepted
-unfolding checked someFrom idTwice stepsTests readAt stepOf ones onesIn outside tooWide shares
+unfolding checked someFrom idTwice stepsTests readAt stepOf ones onesIn outsideBy tooWide shares
 case-11-input-taken = refl
 
 pub case-11-input-refused : patchOf 256 ≡ Refused (refusal 4 1)
-unfolding checked someFrom idTwice stepsTests readAt stepOf ones onesIn outside
+unfolding checked someFrom idTwice stepsTests readAt stepOf ones onesIn outsideBy
 case-11-input-refused = refl

@@ -42,8 +42,8 @@ module _ {p q : Plan} (g : Grew p q) where
   inside-grown (Output s o) h = (omega (arith, h .0, g .indices), h .1)
 
 module _ (p : Plan) (xs ys : List ℕ) (e : take (p .indices) xs ≡ take (p .indices) ys)
-    (us vs : List Float) (f : take (p .coefficients) us ≡ take (p .coefficients) vs) where
-  pub resolved-same : (x : Step) → Inside p x → resolved xs us x ≡ resolved ys vs x
+    (us vs : List Float) (f : take (p .coefficients) us ≡ take (p .coefficients) vs) (q r : Plan) where
+  pub resolved-same : (x : Step) → Inside p x → resolved q xs us x ≡ resolved r ys vs x
   resolved-same (Patch i c d) h = refl
   resolved-same (Gain n s d) h = rw (named-same p xs ys e s (h .1), named-same p xs ys e d (h .2))
   resolved-same (Matrix n s d) h = rw (named-same p xs ys e s (h .1), named-same p xs ys e d (h .2))
@@ -53,7 +53,7 @@ module _ (p : Plan) (xs ys : List ℕ) (e : take (p .indices) xs ≡ take (p .in
   resolved-same (Output s o) h = rw (named-same p xs ys e s (h .0))
 
   -- and a list of steps
-  pub all-resolved-same : (ss : List Step) → Each (Inside p) ss → map (resolved xs us) ss ≡ map (resolved ys vs) ss
+  pub all-resolved-same : (ss : List Step) → Each (Inside p) ss → map (resolved q xs us) ss ≡ map (resolved r ys vs) ss
   all-resolved-same [] h = refl
   all-resolved-same (x ∷ ss) h = rw (resolved-same x (h .0), all-resolved-same ss (h .1))
 
@@ -96,10 +96,10 @@ module _ {p q : Plan} (g : Grew p q) (old new : List ℕ) (e : take (p .indices)
         (passes-none q new xs n at place (passes-grown xs xs n at refl f))
 
     pub resolved-parts : (us vs : List Float) → take (p .coefficients) us ≡ take (p .coefficients) vs
-        → map (resolved new us) (decodedFrom (xs ++ ys) (n + m) at)
-        ≡ map (resolved old vs) (decodedFrom xs n at) ++ map (resolved new us) (decodedFrom ys m 0)
+        → map (resolved q new us) (decodedFrom (xs ++ ys) (n + m) at)
+        ≡ map (resolved p old vs) (decodedFrom xs n at) ++ map (resolved q new us) (decodedFrom ys m 0)
     resolved-parts us vs c =
-        ap (map (resolved new us)) (decoded-parts-from xs ys n m at (all .readable) end)
-        ∙ map-append (resolved new us) (decodedFrom xs n at) (decodedFrom ys m 0)
-        ∙ ap (λ (l : List Resolved). l ++ map (resolved new us) (decodedFrom ys m 0))
-        (all-resolved-same p new old e us vs c (decodedFrom xs n at) (all .inside))
+        ap (map (resolved q new us)) (decoded-parts-from xs ys n m at (all .readable) end)
+        ∙ map-append (resolved q new us) (decodedFrom xs n at) (decodedFrom ys m 0)
+        ∙ ap (λ (l : List Resolved). l ++ map (resolved q new us) (decodedFrom ys m 0))
+        (all-resolved-same p new old e us vs c q p (decodedFrom xs n at) (all .inside))

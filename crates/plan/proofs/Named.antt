@@ -4,14 +4,13 @@ use mathlib.Core.Path.{_≡_, refl}
 use mathlib.Core.List.{List}
 use Prim.Native.Nat.{ℕ, _≤_}
 use native.Mathlib.Omega.{arith}
-use lib.ListN.{length}
 use lib.Ieee.{Float}
 use Rattle.lists.specs.Entries.{AllBelow}
 use Rattle.plan.specs.declared.Plan.{Plan}
 use Rattle.plan.specs.declared.Step.{Step}
 use Rattle.plan.specs.declared.Step.the-variants.{Patch, Gain, Matrix, Clear, Send, Output}
 use Rattle.plan.specs.Limits.{inputs, slots}
-use Rattle.plan.specs.Sound.{Inside}
+use Rattle.plan.specs.Sound.{Inside, Placed}
 use Rattle.plan.specs.Loops.{slotOf, channels}
 use Rattle.plan.specs.Resolved.{resolved, inputNamed, nodeNamed, channelsOut, slotNamed}
 use Rattle.plan.proofs.Spans.{length-named}
@@ -33,14 +32,6 @@ module _ (p : Plan) (indices : List ℕ) (coefficients : List Float) where
   node-inside (Send n s d c) h = (h .0, tt)
   node-inside (Output s o) h = tt
 
-  pub slot-named : (x : Step) → slotNamed (resolved p indices coefficients x) ≡ slotOf x
-  slot-named (Patch i c d) = refl
-  slot-named (Gain n s d) = refl
-  slot-named (Matrix n s d) = refl
-  slot-named (Clear d) = refl
-  slot-named (Send n s d c) = refl
-  slot-named (Output s o) = refl
-
   pub slot-inside : (x : Step) → Inside p x → slotNamed (resolved p indices coefficients x) ≤ slots
   slot-inside (Patch i c d) h = omega arith
   slot-inside (Gain n s d) h = omega arith
@@ -49,10 +40,18 @@ module _ (p : Plan) (indices : List ℕ) (coefficients : List Float) where
   slot-inside (Send n s d c) h = omega arith
   slot-inside (Output s o) h = omega (arith, h .1)
 
-  pub channels-named : p .indices ≤ length indices → (x : Step) → Inside p x → channelsOut (resolved p indices coefficients x) ≡ channels x
-  channels-named r (Patch i c d) h = refl
-  channels-named r (Gain n s d) h = refl
-  channels-named r (Matrix n s d) h = refl
-  channels-named r (Clear d) h = refl
-  channels-named r (Send n s d c) h = refl
-  channels-named r (Output s o) h = length-named indices s (omega (arith, r, h .0))
+  pub slot-named : (x : Step) → slotNamed (resolved p indices coefficients x) ≡ slotOf x
+  slot-named (Patch i c d) = refl
+  slot-named (Gain n s d) = refl
+  slot-named (Matrix n s d) = refl
+  slot-named (Clear d) = refl
+  slot-named (Send n s d c) = refl
+  slot-named (Output s o) = refl
+
+  pub channels-named : (x : Step) → Placed p indices x → channelsOut (resolved p indices coefficients x) ≡ channels x
+  channels-named (Patch i c d) h = refl
+  channels-named (Gain n s d) h = refl
+  channels-named (Matrix n s d) h = refl
+  channels-named (Clear d) h = refl
+  channels-named (Send n s d c) h = refl
+  channels-named (Output s o) h = length-named indices s (h .0 .within)

@@ -18,7 +18,7 @@ use Rattle.plan.specs.declared.Plan.{Plan}
 use Rattle.plan.specs.declared.Span.{Span}
 use Rattle.plan.specs.Limits.{unitLimits}
 use Rattle.plan.specs.Check.{named, used, firstOf}
-use Rattle.plan.specs.Sound.{Within, IndexList}
+use Rattle.plan.specs.Sound.{Within, Names, IndexList}
 use Rattle.plan.specs.Loops.{Ascending, spanBefore}
 
 module _ (indices : List ℕ) (s : Span) where
@@ -39,10 +39,33 @@ module _ (indices : List ℕ) (s : Span) where
           let k : i < min (s .len) (length indices - s .start) = rw (length-take, length-drop) at l in
           rw (named-at i (omega arith)) (entries-none n count indices .0 e (s .start + i) (omega arith) (omega arith))
 
--- buffers that a plan can have, of an index list that was tested
-pub named-low : (p : Plan) (indices : List ℕ) → IndexList p indices → (s : Span) → Within (p .indices) s → someFrom (unitLimits .buffers) (named indices s) ≡ false
-named-low p indices l s h =
-    some-more (p .buffers) (unitLimits .buffers) (named indices s) (l .few) (named-below indices s (p .buffers) (p .indices) (l .entries) h)
+-- a span of an index list that was tested
+pub names : (p : Plan) (indices : List ℕ) → IndexList p indices → (s : Span) → Within (p .indices) s → Names p indices s
+names p indices l s h =
+    record { within = omega (arith, h, l .room); few = l .few; numbers = named-below indices s (p .buffers) (p .indices) (l .entries) h }
+
+-- what it names: as many buffers as it is long, each below the plan's, and so of those that a plan can have
+module _ (p : Plan) (indices : List ℕ) (s : Span) (n : Names p indices s) where
+  pub names-length : length (named indices s) ≡ s .len
+  names-length = length-named indices s (n .within)
+
+  pub names-below : (i : ℕ) → i < s .len → getD (named indices s) i 0 < p .buffers
+  names-below i k = some-none (p .buffers) (named indices s) .0 (n .numbers) i (omega (arith, names-length))
+
+  pub names-low : someFrom (unitLimits .buffers) (named indices s) ≡ false
+  names-low = some-more (p .buffers) (unitLimits .buffers) (named indices s) (n .few) (n .numbers)
+
+  -- and so do its first
+  pub names-first : (k : ℕ) → k ≤ s .len → Names p indices (firstOf k s)
+  names-first k h =
+      let w : Within (length indices) (firstOf k s) = omega (arith, n .within, h) in
+      record {
+        within = w;
+        few = n .few;
+        numbers = some-none (p .buffers) (named indices (firstOf k s)) .1
+            (λ i l. let t : i < k = rw (length-named indices (firstOf k s) w) at l in
+            rw (named-at indices (firstOf k s) i t) (rw (named-at indices s i (omega arith)) at (names-below i (omega arith))));
+      }
 
 -- the used channels of a Gain are the first of each span
 module _ (n : ℕ) (s d : Span) where

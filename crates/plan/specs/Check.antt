@@ -43,15 +43,18 @@ past n s = ltb n (s .start + s .len)
 abbrev pub named : List ℕ → Span → List ℕ
 named indices s = part (s .start) (s .len) indices
 
--- a span, buffer, node, input or slot outside its table, or a Send with more weights than its coefficient span
-unfoldable pub outside : Plan → Step → Bool
-outside p (Patch i c d) = leb inputs i || leb (p .buffers) d
-outside p (Gain n s d) = leb (p .nodes) n || past (p .indices) s || past (p .indices) d
-outside p (Matrix n s d) = leb (p .nodes) n || past (p .indices) s || past (p .indices) d
-outside p (Clear d) = past (p .indices) d
-outside p (Send n s d c) =
-    leb (p .nodes) n || past (p .indices) s || past (p .indices) d || past (p .coefficients) c || ltb (c .len) (s .len * d .len)
-outside p (Output s o) = past (p .indices) s || leb slots o
+-- a span, buffer, node, input or slot outside its table, or a Send with more weights than its coefficient span; `index` and `weights` say which spans
+-- of the two lists are
+unfoldable pub outsideBy : (Span → Bool) → (Span → Bool) → Plan → Step → Bool
+outsideBy index weights p (Patch i c d) = leb inputs i || leb (p .buffers) d
+outsideBy index weights p (Gain n s d) = leb (p .nodes) n || index s || index d
+outsideBy index weights p (Matrix n s d) = leb (p .nodes) n || index s || index d
+outsideBy index weights p (Clear d) = index d
+outsideBy index weights p (Send n s d c) = leb (p .nodes) n || index s || index d || weights c || ltb (c .len) (s .len * d .len)
+outsideBy index weights p (Output s o) = index s || leb slots o
+
+abbrev pub outside : Plan → Step → Bool
+outside p = outsideBy (past (p .indices)) (past (p .coefficients)) p
 
 -- the channels that a Gain uses: the first of each span
 abbrev pub used : Span → Span → ℕ

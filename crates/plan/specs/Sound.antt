@@ -23,15 +23,18 @@ use Rattle.plan.specs.Check.{named, outside, used, firstOf, tooWide, sha
 abbrev pub Within : ℕ → Span → Type 0
 Within n s = s .start + s .len ≤ n
 
--- each span, buffer, node, input and slot is inside its table, and a Send has no more weights than its coefficient span
+-- each span, buffer, node, input and slot is inside its table, and a Send has no more weights than its coefficient span; `Index` and `Weights` say which
+-- spans of the two lists are
+abbrev pub InsideBy : (Span → Type 0) → (Span → Type 0) → Plan → Step → Type 0
+InsideBy Index Weights p (Patch i c d) = (i < inputs) × (d < p .buffers)
+InsideBy Index Weights p (Gain n s d) = (n < p .nodes) × Index s × Index d
+InsideBy Index Weights p (Matrix n s d) = (n < p .nodes) × Index s × Index d
+InsideBy Index Weights p (Clear d) = Index d
+InsideBy Index Weights p (Send n s d c) = (n < p .nodes) × Index s × Index d × Weights c × (s .len * d .len ≤ c .len)
+InsideBy Index Weights p (Output s o) = Index s × (o < slots)
+
 abbrev pub Inside : Plan → Step → Type 0
-Inside p (Patch i c d) = (i < inputs) × (d < p .buffers)
-Inside p (Gain n s d) = (n < p .nodes) × Within (p .indices) s × Within (p .indices) d
-Inside p (Matrix n s d) = (n < p .nodes) × Within (p .indices) s × Within (p .indices) d
-Inside p (Clear d) = Within (p .indices) d
-Inside p (Send n s d c) =
-    (n < p .nodes) × Within (p .indices) s × Within (p .indices) d × Within (p .coefficients) c × (s .len * d .len ≤ c .len)
-Inside p (Output s o) = Within (p .indices) s × (o < slots)
+Inside p = InsideBy (Within (p .indices)) (Within (p .coefficients)) p
 
 -- a Gain uses at most 24 channels, and a Matrix has at most 24 rows × columns
 abbrev pub Narrow : Step → Type 0
@@ -51,7 +54,19 @@ Apart indices (Clear d) = Unit {0}
 Apart indices (Send n s d c) = Disjoint (named indices s) (named indices d)
 Apart indices (Output s o) = Unit {0}
 
--- ---- the index list, as it was tested before a step is: it has its entries, and each is the number of one of at most 256 buffers
+-- ---- what a run and a trace take for granted of the index list
+
+-- a span that is within the list, and names buffers, of which there are at most 256
+pub record Names (p : Plan) (indices : List ℕ) (s : Span) : Type 0 where
+  pub within : Within (length indices) s
+  pub few : p .buffers ≤ unitLimits .buffers
+  pub numbers : someFrom (p .buffers) (named indices s) ≡ false
+
+-- a step inside its tables, whose spans of the index list name buffers
+abbrev pub Placed : Plan → List ℕ → Step → Type 0
+Placed p indices = InsideBy (Names p indices) (Within (p .coefficients)) p
+
+-- the index list as it was tested before a step is: it has its entries, and each is the number of one of at most 256 buffers
 pub record IndexList (p : Plan) (indices : List ℕ) : Type 0 where
   pub room : p .indices ≤ length indices
   pub few : p .buffers ≤ unitLimits .buffers

@@ -20,10 +20,11 @@ use Rattle.plan.specs.Words.{decoded}
 use Rattle.plan.specs.Areas.{Areas, areas, shortAreas}
 use Rattle.plan.specs.Check.{idTwice, planTests, checked, checkPlan}
 use Rattle.plan.specs.Resolved.{resolved}
-use Rattle.plan.specs.Sound.{stepsOf, IndexList, Passes, Inside, Each}
+use Rattle.plan.specs.Sound.{stepsOf, IndexList, Passes, Each, Placed}
 use Rattle.plan.proofs.Plans.{block-none, WithinLimits, limits-none, Room, areas-none}
 use Rattle.plan.proofs.Passes.{none-passes, passes-all}
 use Rattle.plan.proofs.Named.{channels-named}
+use Rattle.plan.proofs.Accepted.{all-placed}
 use Rattle.plan.specs.Loops.{channelsOf}
 use Rattle.input.specs.Input.{directoryBad}
 use Rattle.run.specs.Run.{Given, State, outputChannels, stepsOfRun, admission}
@@ -54,11 +55,11 @@ tested p a e =
     }
 
 -- ---- the channels of the steps, by their spans and by the buffers that those name
-channels-same : (p : Plan) (indices : List ℕ) (coefficients : List Float) → p .indices ≤ length indices → (ss : List Step) → Each (Inside p) ss
+channels-same : (p : Plan) (indices : List ℕ) (coefficients : List Float) (ss : List Step) → Each (Placed p indices) ss
     → outputChannels (map (resolved p indices coefficients) ss) ≡ channelsOf ss
 unfolding outputChannels channelsOf
-channels-same p indices coefficients r [] i = refl
-channels-same p indices coefficients r (x ∷ ss) i = rw (channels-named p indices coefficients r x (i .0), channels-same p indices coefficients r ss (i .1))
+channels-same p indices coefficients [] i = refl
+channels-same p indices coefficients (x ∷ ss) i = rw (channels-named p indices coefficients x (i .0), channels-same p indices coefficients ss (i .1))
 
 -- ---- the answers
 module _ (g : Given) (s : State) where
@@ -90,8 +91,9 @@ module _ (g : Given) (s : State) where
     unfolding decoded
     output-needs =
         let t = tested (g .plan) areas-of e in
-        channels-same (g .plan) (g .indices) (g .coefficients) (t .list .room) (stepsOf (g .plan) (g .steps))
-        (passes-all (g .plan) (g .indices) (take (g .plan .words) (g .steps)) (g .plan .steps) 0 (t .steps) .inside)
+        let ss = stepsOf (g .plan) (g .steps) in
+        channels-same (g .plan) (g .indices) (g .coefficients) ss
+        (all-placed (g .plan) (g .indices) (t .list) ss (passes-all (g .plan) (g .indices) (take (g .plan .words) (g .steps)) (g .plan .steps) 0 (t .steps) .inside))
 
     pub by-14 : someBad (s .words) (g .plan .nodes) ≡ true → admission g s ≡ Refused (refusal badNode 0)
     by-14 b = past-plan ∙ rw b

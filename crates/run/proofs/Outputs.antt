@@ -4,14 +4,13 @@ use mathlib.Core.List.{List}
 use Prim.Native.Nat.{ℕ, _+_, _*_, _≤_}
 use native.Mathlib.Nat.{zero-mul}
 use native.Mathlib.Omega.{arith}
-use lib.ListN.{length}
 use lib.Ieee.{Float}
 use Rattle.plan.specs.declared.Plan.{Plan}
 use Rattle.plan.specs.declared.Span.{Span}
 use Rattle.plan.specs.declared.Step.{Step}
 use Rattle.plan.specs.declared.Step.the-variants.{Output}
 use Rattle.plan.specs.Resolved.{resolved, Resolved, patch, gain, matrix, clear, send, output, channelsOut}
-use Rattle.plan.specs.Sound.{Inside}
+use Rattle.plan.specs.Sound.{Placed}
 use Rattle.plan.specs.Loops.{channels}
 use Rattle.plan.proofs.Named.{channels-named}
 use Rattle.run.specs.Run.{State, stepped}
@@ -30,7 +29,7 @@ wrote-out block input (send n src dst weights) s = rw zero-mul (omega arith)
 wrote-out block input (output src slot) s = refl
 
 pub wrote-more : (p : Plan) (indices : List ℕ) (coefficients : List Float) (block : ℕ) (input : ℕ → ℕ → List Float) (x : Step) (s : State)
-    → p .indices ≤ length indices → Inside p x → stepped block input (resolved p indices coefficients x) s .wrote ≡ s .wrote + channels x * block
-wrote-more p indices coefficients block input x s r h =
+    → Placed p indices x → stepped block input (resolved p indices coefficients x) s .wrote ≡ s .wrote + channels x * block
+wrote-more p indices coefficients block input x s h =
     wrote-out block input (resolved p indices coefficients x) s
-    ∙ ap (λ (c : ℕ). s .wrote + c * block) (channels-named p indices coefficients r x h)
+    ∙ ap (λ (c : ℕ). s .wrote + c * block) (channels-named p indices coefficients x h)

@@ -9,7 +9,7 @@ use Rattle.node.specs.Areas.{Room, someBad}
 use Rattle.plan.specs.declared.Plan.{Plan}
 use Rattle.plan.specs.declared.Step.{Step}
 use Rattle.plan.specs.Limits.{maxBlock, unitLimits}
-use Rattle.plan.specs.Sound.{Inside, Narrow, Apart, IndexList}
+use Rattle.plan.specs.Sound.{Narrow, Apart, Placed, IndexList}
 use Rattle.run.specs.Run.{State}
 
 -- ---- what the tests said
@@ -27,6 +27,6 @@ pub record Fit (p : Plan) (indices : List ℕ) (coefficients : List Float) (s : 
 -- and of one step
 pub record FitStep (p : Plan) (indices : List ℕ) (coefficients : List Float) (s : State) (x : Step) : Type 0 where
   pub fit : Fit p indices coefficients s
-  pub inside : Inside p x
+  pub inside : Placed p indices x
   pub narrow : Narrow x
   pub apart : Apart indices x

@@ -25,21 +25,21 @@ use Rattle.plan.specs.declared.Plan.{Plan}
 use Rattle.plan.specs.declared.Span.{Span}
 use Rattle.plan.specs.Limits.{maxBlock}
 use Rattle.plan.specs.Check.{named, used, firstOf}
-use Rattle.plan.specs.Sound.{Within, IndexList}
-use Rattle.plan.proofs.Spans.{length-named, named-below, used-src, used-dst}
+use Rattle.plan.specs.Sound.{Within, Names}
+use Rattle.plan.proofs.Spans.{length-named, names-length, names-first}
 use Rattle.run_kinds.specs.Loops.{NodeFit}
 
 -- ---- buffers
 
-module _ (p : Plan) (indices : List ℕ) (area : List Float) (l : IndexList p indices) (r : p .buffers * p .block ≤ length area) where
+module _ (p : Plan) (indices : List ℕ) (area : List Float) (r : p .buffers * p .block ≤ length area) where
   -- those of a span
-  pub span-inside : (s : Span) → Within (p .indices) s → {xs : List ℕ} → xs ≡ named indices s → AllInside (p .block) xs area
+  pub span-inside : (s : Span) → Names p indices s → {xs : List ℕ} → xs ≡ named indices s → AllInside (p .block) xs area
   span-inside s h {xs} e i k =
-      let low : someFrom (p .buffers) xs ≡ _ = ap (someFrom (p .buffers)) e ∙ named-below indices s (p .buffers) (p .indices) (l .entries) h in
+      let low : someFrom (p .buffers) xs ≡ _ = ap (someFrom (p .buffers)) e ∙ h .numbers in
       buffer-inside (p .buffers) (p .block) (getD xs i 0) area (some-none (p .buffers) xs .0 low i k) r
 
   -- those of two spans that share none
-  pub spans-apart : (b : p .block ≤ maxBlock) (s d : Span) → Within (p .indices) s → Within (p .indices) d
+  pub spans-apart : (b : p .block ≤ maxBlock) (s d : Span) → Names p indices s → Names p indices d
       → Disjoint (named indices s) (named indices d) → {xs ys : List ℕ} → xs ≡ named indices s → ys ≡ named indices d → Buffers (p .block) xs ys area
   spans-apart b s d hs hd a {xs} {ys} es ed =
       record {
@@ -89,24 +89,23 @@ module _ {p : Plan} {indices : List ℕ} {floats : List Float} {words : List ℕ
   node-len = none-bad-at words (p .nodes) (f .good) floats n (f .node) .len
 
   pub sources-length : {xs : List ℕ} → xs ≡ named indices src → length xs ≡ src .len
-  sources-length e = ap length e ∙ length-named indices src (omega (arith, f .list .room, f .sources))
+  sources-length e = ap length e ∙ names-length p indices src (f .sources)
 
   pub targets-length : {xs : List ℕ} → xs ≡ named indices dst → length xs ≡ dst .len
-  targets-length e = ap length e ∙ length-named indices dst (omega (arith, f .list .room, f .targets))
+  targets-length e = ap length e ∙ names-length p indices dst (f .targets)
 
   pub step-apart : Disjoint (named indices src) (named indices dst) → {xs ys : List ℕ} → xs ≡ named indices src → ys ≡ named indices dst
       → Buffers (p .block) xs ys buffers
-  step-apart a es ed = spans-apart p indices buffers (f .list) (f .area) (f .block) src dst (f .sources) (f .targets) a es ed
+  step-apart a es ed = spans-apart p indices buffers (f .area) (f .block) src dst (f .sources) (f .targets) a es ed
 
   pub gain-apart : Disjoint (named indices (firstOf (used src dst) src)) (named indices (firstOf (used src dst) dst)) → {xs ys : List ℕ}
       → xs ≡ named indices src → ys ≡ named indices dst → Buffers (p .block) (mix.used xs ys) (mix.used ys xs) buffers
   gain-apart a {xs} {ys} es ed =
-      let hs : Within (length indices) src = omega (arith, f .list .room, f .sources) in
-      let hd : Within (length indices) dst = omega (arith, f .list .room, f .targets) in
       let m : min (dst .len) (src .len) ≡ min (src .len) (dst .len) = omega arith in
-      spans-apart p indices buffers (f .list) (f .area) (f .block) (firstOf (used src dst) src) (firstOf (used src dst) dst)
-      (used-src (p .indices) src dst (f .sources)) (used-dst (p .indices) src dst (f .targets)) a (used-named indices src dst hd es ed)
-      (used-named indices dst src hs ed es ∙ ap (λ (k : ℕ). named indices (firstOf k dst)) m)
+      spans-apart p indices buffers (f .area) (f .block) (firstOf (used src dst) src) (firstOf (used src dst) dst)
+      (names-first p indices src (f .sources) (used src dst) (omega arith)) (names-first p indices dst (f .targets) (used src dst) (omega arith)) a
+      (used-named indices src dst (f .targets .within) es ed)
+      (used-named indices dst src (f .sources .within) ed es ∙ ap (λ (k : ℕ). named indices (firstOf k dst)) m)
 
   -- a value or a weight for each row and column
   pub values-count : (k : ℕ) → src .len * dst .len ≤ k → {xs ys : List ℕ} → xs ≡ named indices src → ys ≡ named indices dst → length ys * length xs ≤ k

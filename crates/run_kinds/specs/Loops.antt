@@ -9,15 +9,14 @@ use Rattle.node.specs.Areas.{Room, someBad}
 use Rattle.plan.specs.declared.Plan.{Plan}
 use Rattle.plan.specs.declared.Span.{Span}
 use Rattle.plan.specs.Limits.{maxBlock}
-use Rattle.plan.specs.Sound.{Within, IndexList}
+use Rattle.plan.specs.Sound.{Names}
 
 -- what the tests said of a step that has a node
 pub record NodeFit (p : Plan) (indices : List ℕ) (floats : List Float) (words : List ℕ) (buffers : List Float) (n : ℕ) (src dst : Span) : Type 0 where
   pub block : p .block ≤ maxBlock
-  pub list : IndexList p indices
   pub node : n < p .nodes
   pub room : Room (p .nodes) floats words
   pub good : someBad words (p .nodes) ≡ false
-  pub sources : Within (p .indices) src
-  pub targets : Within (p .indices) dst
+  pub sources : Names p indices src
+  pub targets : Names p indices dst
   pub area : p .buffers * p .block ≤ length buffers

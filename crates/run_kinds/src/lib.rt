@@ -13,7 +13,7 @@ ghost use Rattle.mix.specs.Samples.{put};
 ghost use Rattle.mix.specs.Mix.{patched, gained, rows, sends, cleared, appended, Inside};
 ghost use Rattle.plan.specs.declared.Step.the-variants as step;
 ghost use Rattle.plan.specs.Check.{named};
-ghost use Rattle.plan.specs.Sound.{Within, Narrow, Apart, IndexList};
+ghost use Rattle.plan.specs.Sound.{Within, Narrow, Apart, Names};
 ghost use Rattle.run_kinds.specs.Loops.{NodeFit};
 
 // The weights of a Send. Requires a span within the coefficients.
@@ -205,7 +205,7 @@ pub fn patch(buffers: &mut [f32], block: usize, dst: usize, part: &[f32])
 
 // Clear. Requires an index list that was tested, a span within it, and all buffers.
 pub fn run_clear(plan: Plan, indices: &[u32], buffers: &mut [f32], dst: Span)
-    requires { ⌜ IndexList plan (now indices) × Within (plan .indices) dst × (plan .buffers * plan .block ≤ length (now buffers)) ⌝ }
+    requires { ⌜ Names plan (now indices) dst × (plan .buffers * plan .block ≤ length (now buffers)) ⌝ }
     ensures { λ _. ⌜ now (buffers .exit) ≡ cleared (plan .block) (named (now (indices .entry)) dst) (now (buffers .entry)) ⌝ }
 {
     mix_buffers::clear(buffers, plan.block, plan_steps::numbers(indices, dst));
@@ -220,7 +220,7 @@ pub fn run_output(
     wrote: usize,
     src: Span,
 ) -> usize
-    requires { ⌜ IndexList plan (now indices) × Within (plan .indices) src × (plan .buffers * plan .block ≤ length (now buffers)) ⌝ }
+    requires { ⌜ Names plan (now indices) src × (plan .buffers * plan .block ≤ length (now buffers)) ⌝ }
     requires { ⌜ wrote + src .len * plan .block ≤ length (now output) ⌝ }
     ensures wrote { λ r. ⌜ r ≡ wrote + length (named (now (indices .entry)) src) * plan .block ⌝ }
     ensures output { λ _. ⌜ now (output .exit) ≡ appended (plan .block) (now (buffers .entry)) (named (now (indices .entry)) src) wrote (now (output .entry)) ⌝ }

@@ -9,7 +9,7 @@ use Rattle.lists.proofs.Stores.{length-part}
 use Rattle.plan.specs.declared.Plan.{Plan}
 use Rattle.plan.specs.declared.Span.{Span}
 use Rattle.plan.specs.declared.Step.{Step}
-use Rattle.plan.specs.Sound.{Within}
+use Rattle.plan.specs.Sound.{Within, Names}
 use Rattle.run.specs.Run.{State}
 use Rattle.run.specs.Loops.{Fit, FitStep}
 use Rattle.run_kinds.specs.Loops.{NodeFit}
@@ -20,11 +20,10 @@ pub step-as : {p : Plan} {indices : List ℕ} {coefficients : List Float} {s : S
 step-as {p} {indices} {coefficients} {s} e f = subst (FitStep p indices coefficients s) e f
 
 pub node-fit : {p : Plan} {indices : List ℕ} {coefficients : List Float} {s : State} (n : ℕ) (src dst : Span) → Fit p indices coefficients s → n < p .nodes
-    → Within (p .indices) src → Within (p .indices) dst → NodeFit p indices (s .floats) (s .words) (s .buffers) n src dst
+    → Names p indices src → Names p indices dst → NodeFit p indices (s .floats) (s .words) (s .buffers) n src dst
 node-fit n src dst f h a b =
     record {
       block = f .block;
-      list = f .list;
       node = h;
       room = f .room;
       good = f .good;

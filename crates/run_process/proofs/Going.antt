@@ -13,10 +13,10 @@ use Rattle.plan.specs.declared.Step.{Step}
 use Rattle.plan.specs.declared.Read.the-variants.{Found, Bad}
 use Rattle.plan.specs.Words.{readAt, decodedFrom, decoded}
 use Rattle.plan.specs.Resolved.{Resolved, resolved, nodeNamed}
-use Rattle.plan.specs.Sound.{Passes}
+use Rattle.plan.specs.Sound.{Inside, Passes}
 use Rattle.plan.proofs.Answers.{rest-of}
 use Rattle.plan.proofs.Words.{decoded-on, decoded-bad, decoded-none}
-use Rattle.plan.proofs.Accepted.{pass-inside, pass-narrow, pass-apart, pass-rest}
+use Rattle.plan.proofs.Accepted.{pass-inside, pass-placed, pass-narrow, pass-apart, pass-rest}
 use Rattle.plan.proofs.Named.{node-inside}
 use Rattle.plan.specs.Loops.{channels, channelsOf}
 use Rattle.run.specs.Run.{State, stepped, runSteps}
@@ -26,11 +26,11 @@ use Rattle.run.proofs.States.{Good, step-nodes, good-ends}
 
 -- a step makes no node bad
 module _ (p : Plan) (indices : List ℕ) (coefficients : List Float) (block : ℕ) (input : ℕ → ℕ → List Float) (s : State) where
-  pub stepped-good : (x : Step) → FitStep p indices coefficients s x → someBad (stepped block input (resolved p indices coefficients x) s .words) (p .nodes) ≡ false
-  stepped-good x f =
+  pub stepped-good : (x : Step) → Fit p indices coefficients s → Inside p x → someBad (stepped block input (resolved p indices coefficients x) s .words) (p .nodes) ≡ false
+  stepped-good x f h =
       let y = resolved p indices coefficients x in
-      let good : Good (p .nodes) (idAt (s .words)) (s .words) = record { room = f .fit .room .1; ids-are = λ i h. refl; none-bad = f .fit .good } in
-      rw (step-nodes block input y s .words) (good-ends (p .nodes) (idAt (s .words)) block (nodeNamed y) s good (node-inside p indices coefficients x (f .inside)) .none-bad)
+      let good : Good (p .nodes) (idAt (s .words)) (s .words) = record { room = f .room .1; ids-are = λ i l. refl; none-bad = f .good } in
+      rw (step-nodes block input y s .words) (good-ends (p .nodes) (idAt (s .words)) block (nodeNamed y) s good (node-inside p indices coefficients x h) .none-bad)
 
 module _ (p : Plan) (indices : List ℕ) (coefficients : List Float) (input : ℕ → ℕ → List Float) (w : List ℕ) (s₀ : State) where
   abbrev steps-of : List Step → List Resolved
@@ -79,7 +79,7 @@ module _ (p : Plan) (indices : List ℕ) (coefficients : List Float) (input : �
       going-fits = (
         record {
           fit = c .fit;
-          inside = pass-inside p indices w at (rest-of h) (c .pass) r;
+          inside = pass-placed p indices w at (rest-of h) (c .pass) r (c .fit .list);
           narrow = pass-narrow p indices w at (rest-of h) (c .pass) r;
           apart = pass-apart p indices w at (rest-of h) (c .pass) r;
         },
@@ -93,7 +93,7 @@ module _ (p : Plan) (indices : List ℕ) (coefficients : List Float) (input : �
       going-on t q lf lw lb lo =
           let f = going-fits .0 in
           let m : t .wrote ≡ s .wrote + channels x * p .block =
-          ap (λ (y : State). y .wrote) q ∙ wrote-more p indices coefficients (p .block) input x s (c .fit .list .room) (f .inside) in
+          ap (λ (y : State). y .wrote) q ∙ wrote-more p indices coefficients (p .block) input x s (f .inside) in
           record {
             turns = omega arith;
             fit = record {
@@ -102,7 +102,7 @@ module _ (p : Plan) (indices : List ℕ) (coefficients : List Float) (input : �
               list = c .fit .list;
               weights = c .fit .weights;
               room = rw (lf, lw) (c .fit .room);
-              good = ap (λ (y : State). someBad (y .words) (p .nodes)) q ∙ stepped-good p indices coefficients (p .block) input s x f;
+              good = ap (λ (y : State). someBad (y .words) (p .nodes)) q ∙ stepped-good p indices coefficients (p .block) input s x (c .fit) (pass-inside p indices w at (rest-of h) (c .pass) r);
               buffers = rw lb (c .fit .buffers);
             };
             pass = pass-rest p indices w at (rest-of h) (c .pass) r;

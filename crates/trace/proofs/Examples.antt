@@ -10,7 +10,7 @@ use Rattle.refusal.specs.Tests.{refusal}
 use Rattle.sets.specs.Sets.{sift}
 use Rattle.plan.specs.declared.Plan.{Plan}
 use Rattle.plan.specs.Words.{patchMap, clearMap, sendMap, outputMap, stepOf, readAt, decodedFrom, decoded}
-use Rattle.plan.specs.Check.{idAmong, idTwice, outside, tooWide, shares, stepsTests, checked}
+use Rattle.plan.specs.Check.{idAmong, idTwice, outside, outsideBy, tooWide, shares, stepsTests, checked}
 use Rattle.plan.specs.Resolved.{patch, clear, output, resolvedSteps}
 use Rattle.trace.specs.Sources.{union, spread, joins, behind, sourceList, slotCount}
 use Rattle.trace.specs.Clean.{written, all, cleanStep, cleanFrom, clean}
@@ -49,20 +49,20 @@ left input slot = sourcesArea plan slot indices (7 ∷ 1 ∷ 0 ∷ []) (steps in
 
 -- the lists: empty, empty, [3]
 pub case-8-slot-0 : (answered 3 0 ≡ Listed 0) × (left 3 0 ≡ 9 ∷ [])
-unfolding sourcesAnswer sourcesArea traceAnswer someFrom idAmong idTwice stepsTests readAt stepOf ones onesIn outside tooWide has meet shares decoded decodedFrom sift union spread joins behind sourceList slotCount
+unfolding sourcesAnswer sourcesArea traceAnswer someFrom idAmong idTwice stepsTests readAt stepOf ones onesIn outsideBy tooWide has meet shares decoded decodedFrom sift union spread joins behind sourceList slotCount
 case-8-slot-0 = (refl, refl)
 
 pub case-8-slot-1 : (answered 3 1 ≡ Listed 0) × (left 3 1 ≡ 9 ∷ [])
-unfolding sourcesAnswer sourcesArea traceAnswer someFrom idAmong idTwice stepsTests readAt stepOf ones onesIn outside tooWide has meet shares decoded decodedFrom sift union spread joins behind sourceList slotCount
+unfolding sourcesAnswer sourcesArea traceAnswer someFrom idAmong idTwice stepsTests readAt stepOf ones onesIn outsideBy tooWide has meet shares decoded decodedFrom sift union spread joins behind sourceList slotCount
 case-8-slot-1 = (refl, refl)
 
 pub case-8-slot-2 : (answered 3 2 ≡ Listed 1) × (left 3 2 ≡ 3 ∷ [])
-unfolding sourcesAnswer sourcesArea traceAnswer someFrom idAmong idTwice stepsTests readAt stepOf ones onesIn outside tooWide has meet shares decoded decodedFrom sift union spread joins behind sourceList slotCount
+unfolding sourcesAnswer sourcesArea traceAnswer someFrom idAmong idTwice stepsTests readAt stepOf ones onesIn outsideBy tooWide has meet shares decoded decodedFrom sift union spread joins behind sourceList slotCount
 case-8-slot-2 = (refl, refl)
 
 -- slot 3 is refused 15
 pub case-8-slot-3 : (answered 3 3 ≡ Refused (refusal 15 0)) × (left 3 3 ≡ 9 ∷ [])
-unfolding sourcesAnswer sourcesArea traceAnswer someFrom idAmong idTwice stepsTests readAt stepOf ones onesIn outside tooWide has meet shares decoded decodedFrom sift union spread joins behind sourceList slotCount
+unfolding sourcesAnswer sourcesArea traceAnswer someFrom idAmong idTwice stepsTests readAt stepOf ones onesIn outsideBy tooWide has meet shares decoded decodedFrom sift union spread joins behind sourceList slotCount
 case-8-slot-3 = (refl, refl)
 
 -- the three at once: how many inputs each slot has, and the inputs of slot 2 from its 256 places on; all else stays 9
@@ -72,12 +72,12 @@ all-at-once m n = allAnswer plan indices (7 ∷ 1 ∷ 0 ∷ []) (steps 3) m n
 pub case-8-all : (all-at-once 4 768 ≡ every.Slots 3)
     × (allCounts plan indices (7 ∷ 1 ∷ 0 ∷ []) (steps 3) (9 ∷ 9 ∷ 9 ∷ 9 ∷ []) 768 ≡ 0 ∷ 0 ∷ 1 ∷ 9 ∷ [])
     × (allLists plan indices (7 ∷ 1 ∷ 0 ∷ []) (steps 3) 4 (replicate 768 9) ≡ replicate 512 9 ++ 3 ∷ replicate 255 9)
-unfolding allAnswer allCounts allLists allTraced someFrom idAmong idTwice stepsTests readAt stepOf ones onesIn outside tooWide has meet shares decoded decodedFrom sift union spread joins behind sourceList slotCount
+unfolding allAnswer allCounts allLists allTraced someFrom idAmong idTwice stepsTests readAt stepOf ones onesIn outsideBy tooWide has meet shares decoded decodedFrom sift union spread joins behind sourceList slotCount
 case-8-all = (refl, refl, refl)
 
 -- one place less, for the counts or for the lists, is refused 2
 pub case-8-short : (all-at-once 2 768 ≡ every.Refused (refusal 2 0)) × (all-at-once 3 767 ≡ every.Refused (refusal 2 0))
-unfolding allAnswer allTraced someFrom idAmong idTwice stepsTests readAt stepOf ones onesIn outside tooWide has meet shares decoded decodedFrom sift union spread joins behind sourceList slotCount
+unfolding allAnswer allTraced someFrom idAmong idTwice stepsTests readAt stepOf ones onesIn outsideBy tooWide has meet shares decoded decodedFrom sift union spread joins behind sourceList slotCount
 case-8-short = (refl, refl)
 
 -- the input is listed whatever the weight is, and so where it is 0
@@ -90,16 +90,16 @@ case-8-weight weight = traced-coefficients plan indices (weight ∷ []) (steps 3
 
 -- a plan with a fault of its own, an input of 256 in its first step, answers that, and not 15
 pub fault-before-15 : answered 256 3 ≡ Refused (refusal 4 1)
-unfolding sourcesAnswer traceAnswer someFrom idAmong idTwice stepsTests readAt stepOf ones onesIn outside slotCount
+unfolding sourcesAnswer traceAnswer someFrom idAmong idTwice stepsTests readAt stepOf ones onesIn outsideBy slotCount
 fault-before-15 = refl
 
 -- the plan is clean, and without its Clear, of which no step writes buffer 1, it is not
 pub case-8-clean : cleanAnswer plan indices (7 ∷ 1 ∷ 0 ∷ []) (steps 3) ≡ Clean
-unfolding cleanAnswer checked someFrom idAmong idTwice stepsTests readAt stepOf ones onesIn outside tooWide has meet shares decoded decodedFrom written all cleanStep cleanFrom clean
+unfolding cleanAnswer checked someFrom idAmong idTwice stepsTests readAt stepOf ones onesIn outsideBy tooWide has meet shares decoded decodedFrom written all cleanStep cleanFrom clean
 case-8-clean = refl
 
 pub send-to-unwritten : cleanAnswer unclear indices (7 ∷ 1 ∷ 0 ∷ []) (patchMap ∷ 3 ∷ 0 ∷ 0 ∷ sendMap ∷ 0 ∷ 0 ∷ 1 ∷ 1 ∷ 1 ∷ 0 ∷ 1 ∷ outputMap ∷ 1 ∷ 1 ∷ 2 ∷ []) ≡ NotClean
-unfolding cleanAnswer checked someFrom idAmong idTwice stepsTests readAt stepOf ones onesIn outside tooWide has meet shares decoded decodedFrom written all cleanStep cleanFrom clean
+unfolding cleanAnswer checked someFrom idAmong idTwice stepsTests readAt stepOf ones onesIn outsideBy tooWide has meet shares decoded decodedFrom written all cleanStep cleanFrom clean
 send-to-unwritten = refl
 
 -- ---- a Patch replaces what a buffer had, and a Clear empties it

@@ -13,12 +13,13 @@ use Rattle.sets.specs.Sets.{member}
 use Rattle.plan.specs.declared.Plan.{Plan}
 use Rattle.plan.specs.declared.Step.{Step}
 use Rattle.plan.specs.declared.Read.the-variants.{Found, Bad}
+use Rattle.plan.specs.Limits.{unitLimits}
 use Rattle.plan.specs.Words.{readAt, decodedFrom, decoded}
-use Rattle.plan.specs.Sound.{Inside, IndexList, Passes, Tested}
+use Rattle.plan.specs.Sound.{Placed, Passes, Tested}
 use Rattle.plan.specs.Resolved.{Resolved, resolved}
 use Rattle.plan.proofs.Answers.{rest-of}
 use Rattle.plan.proofs.Words.{decoded-on, decoded-bad, decoded-none}
-use Rattle.plan.proofs.Accepted.{pass-inside, pass-rest}
+use Rattle.plan.proofs.Accepted.{pass-placed, pass-rest}
 use Rattle.trace.specs.Clean.{noneWritten, written, all, cleanStep, cleanFrom, clean}
 
 -- ---- a list of buffers, of which k are in the set
@@ -48,8 +49,8 @@ module _ (w : ℕ → Bool) (xs : List ℕ) where
         sym (c .so ∙ ap (λ (n : ℕ). all w (drop n xs)) e ∙ ap (all w) (drop-length xs))
 
 -- ---- a step by what was read
-pub inside-as : (p : Plan) {x y : Step} → x ≡ y → Inside p x → Inside p y
-inside-as p e h = subst (λ (z : Step). Inside p z) e h
+pub placed-as : (p : Plan) (indices : List ℕ) {x y : Step} → x ≡ y → Placed p indices x → Placed p indices y
+placed-as p indices e h = subst (λ (z : Step). Placed p indices z) e h
 
 module _ (p : Plan) (indices : List ℕ) (w : ℕ → Bool) {x y : Step} (e : x ≡ y) where
   pub clean-as : {t : Bool} → t ≡ cleanStep w (resolved p indices [] y) → t ≡ cleanStep w (resolved p indices [] x)
@@ -86,8 +87,8 @@ module _ (p : Plan) (indices w : List ℕ) where
 
   module _ {set : Set} {at i : ℕ} (c : Cleaning set at i) where
     module _ (h : i < p .steps) {x : Step} {next : ℕ} (r : readAt w at ≡ Found x next) where
-      pub cleaning-fits : IndexList p indices × Inside p x
-      cleaning-fits = (c .plan .list, pass-inside p indices w at (rest-of h) (c .pass) r)
+      pub cleaning-fits : Placed p indices x × (p .buffers ≤ unitLimits .buffers)
+      cleaning-fits = (pass-placed p indices w at (rest-of h) (c .pass) r (c .plan .list), c .plan .list .few)
 
       turn : whole ≡ (cleanStep (member set) (resolved p indices [] x) && cleanFrom (written (member set) (resolved p indices [] x)) (from (i + 1) next))
       unfolding cleanFrom

@@ -8,13 +8,14 @@ use sets::Set;
 ghost use mathlib.Core.Path.{_≡_};
 ghost use mathlib.Core.Bool.{_||_};
 ghost use mathlib.Core.List.{[], map};
-ghost use Prim.Native.Nat.{ℕ};
+ghost use Prim.Native.Nat.{ℕ, _≤_};
 ghost use lib.ListN.{length};
 ghost use Rattle.lists.specs.Entries.{has};
 ghost use Rattle.sets.specs.Sets.{member};
+ghost use Rattle.plan.specs.Limits.{unitLimits};
 ghost use Rattle.plan.specs.Words.{decoded};
 ghost use Rattle.plan.specs.Check.{named};
-ghost use Rattle.plan.specs.Sound.{Within, Inside, IndexList, Tested};
+ghost use Rattle.plan.specs.Sound.{Within, Names, Placed, Tested};
 ghost use Rattle.plan.specs.Resolved.{resolved};
 ghost use Rattle.trace.specs.Clean.{written, all, cleanStep, clean};
 
@@ -42,7 +43,7 @@ fn span_in(set: Set, indices: &[u32], span: Span) -> bool
 
 // The set with the buffers of a span. Requires an index list that was tested, and a span within it.
 fn with_span(plan: Plan, set: Set, indices: &[u32], span: Span) -> Set
-    requires { ⌜ IndexList plan (now indices) × Within (plan .indices) span ⌝ }
+    requires { ⌜ Names plan (now indices) span ⌝ }
     ensures { λ r. ⌜ ((b : ℕ) → member r b ≡ (has (named (now (indices .entry)) span) b || member set b)) ⌝ }
 {
     plan_steps::set_of(plan_steps::numbers(indices, span)).union(set)
@@ -50,7 +51,7 @@ fn with_span(plan: Plan, set: Set, indices: &[u32], span: Span) -> Set
 
 // Whether a step may stand where the buffers of the set are written. Requires what the tests said of the plan and of it.
 fn clean_step(plan: Plan, set: Set, indices: &[u32], step: Step) -> bool
-    requires { ⌜ IndexList plan (now indices) × Inside plan step ⌝ }
+    requires { ⌜ Placed plan (now indices) step ⌝ }
     ensures { λ r. ⌜ r ≡ cleanStep (member set) (resolved plan (now (indices .entry)) [] step) ⌝ }
 {
     match step {
@@ -78,7 +79,7 @@ fn clean_step(plan: Plan, set: Set, indices: &[u32], step: Step) -> bool
 
 // The buffers that are written once the step has gone by. Requires as `clean_step`.
 fn written(plan: Plan, set: Set, indices: &[u32], step: Step) -> Set
-    requires { ⌜ IndexList plan (now indices) × Inside plan step ⌝ }
+    requires { ⌜ Placed plan (now indices) step × (plan .buffers ≤ unitLimits .buffers) ⌝ }
     ensures { λ r. ⌜ ((b : ℕ) → member r b ≡ written (member set) (resolved plan (now (indices .entry)) [] step) b) ⌝ }
 {
     match step {

@@ -20,11 +20,11 @@ use Rattle.plan.specs.declared.Step.the-variants.{Patch, Gain, Matrix, Clear, S
 use Rattle.plan.specs.declared.Read.the-variants.{Found, Bad}
 use Rattle.plan.specs.Words.{readAt, decodedFrom, decoded}
 use Rattle.plan.specs.Check.{named}
-use Rattle.plan.specs.Sound.{Within, Passes, Tested}
+use Rattle.plan.specs.Sound.{Names, Passes, Tested}
 use Rattle.plan.specs.Resolved.{resolved}
 use Rattle.plan.proofs.Answers.{rest-of}
 use Rattle.plan.proofs.Words.{decoded-on, decoded-bad, decoded-none}
-use Rattle.plan.proofs.Accepted.{pass-inside, pass-rest}
+use Rattle.plan.proofs.Accepted.{pass-placed, pass-rest}
 use Rattle.plan.proofs.Step.{the-type}
 use Rattle.plan.proofs.Named.{slot-named}
 use Rattle.trace.specs.Sources.{union, spread, joins, behind, slotCount}
@@ -63,9 +63,9 @@ module _ (p : Plan) (indices : List ℕ) (s : ℕ) (sources : ℕ → ℕ → Bo
 pub fit-as : {p : Plan} {indices area : List ℕ} {x y : Step} → x ≡ y → Fit p indices area x → Fit p indices area y
 fit-as {p} {indices} {area} e f = subst (λ (z : Step). Fit p indices area z) e f
 
-pub spans-of : {p : Plan} {indices area : List ℕ} {x : Step} {a d : Span} → Fit p indices area x → Within (p .indices) a → Within (p .indices) d
+pub spans-of : {p : Plan} {indices area : List ℕ} {x : Step} {a d : Span} → Fit p indices area x → Names p indices a → Names p indices d
     → Spans p indices area a d
-spans-of f h k = record { list = f .list; sources = h; targets = k; room = f .room }
+spans-of f h k = record { sources = h; targets = k; room = f .room }
 
 pub spread-as : (p : Plan) (indices : List ℕ) (sources next : ℕ → ℕ → Bool) {x y : Step} → x ≡ y → next ≡ spread sources (resolved p indices [] y)
     → next ≡ spread sources (resolved p indices [] x)
@@ -135,7 +135,7 @@ module _ (p : Plan) (indices w area₀ slots₀ : List ℕ) where
   module _ {area slots : List ℕ} {count at i : ℕ} (c : Walking area slots count at i) where
     module _ (h : i < p .steps) {x : Step} {next : ℕ} (r : readAt w at ≡ Found x next) where
       pub walking-fits : Fit p indices area x
-      walking-fits = record { list = c .plan .list; inside = pass-inside p indices w at (rest-of h) (c .pass) r; room = c .room }
+      walking-fits = record { few = c .plan .list .few; inside = pass-placed p indices w at (rest-of h) (c .pass) r (c .plan .list); room = c .room }
 
       pub walking-on : (area′ slots′ : List ℕ) (count′ : ℕ)
           → ((s j : ℕ) → sourcesOf slots′ s j ≡ (sourcesOf slots s j || joins s (sourcesOf area) (resolved p indices [] x) j))

@@ -1,6 +1,6 @@
 -- What the contracts of the walk, and of the calls above it, cite: the source sets of all buffers in an area of words, what a loop over a list of buffers makes
 -- of them, and what the walk takes for granted. Definitions only.
-use Prim.Native.Nat.{ℕ, _+_, _*_, max}
+use Prim.Native.Nat.{ℕ, _+_, _*_, _≤_, max}
 use mathlib.Core.Path.{_≡_}
 use mathlib.Core.Bool.{Bool, _||_, cond}
 use mathlib.Core.List.{List}
@@ -12,7 +12,7 @@ use Rattle.plan.specs.declared.Plan.{Plan}
 use Rattle.plan.specs.declared.Span.{Span}
 use Rattle.plan.specs.declared.Step.{Step}
 use Rattle.plan.specs.Limits.{slots, unitLimits}
-use Rattle.plan.specs.Sound.{Within, Inside, IndexList}
+use Rattle.plan.specs.Sound.{Names, Placed}
 use Rattle.plan.specs.Loops.{slotOf}
 
 -- ---- the areas: the words of a set for each buffer that a plan can have, and for each slot
@@ -51,14 +51,13 @@ joined set i own = own || member set i
 
 -- of a step, and of two spans
 pub record Fit (p : Plan) (indices area : List ℕ) (x : Step) : Type 0 where
-  pub list : IndexList p indices
-  pub inside : Inside p x
+  pub few : p .buffers ≤ unitLimits .buffers
+  pub inside : Placed p indices x
   pub room : length area ≡ areaWords
 
 pub record Spans (p : Plan) (indices area : List ℕ) (src dst : Span) : Type 0 where
-  pub list : IndexList p indices
-  pub sources : Within (p .indices) src
-  pub targets : Within (p .indices) dst
+  pub sources : Names p indices src
+  pub targets : Names p indices dst
   pub room : length area ≡ areaWords
 
 -- ---- the count of slots where step x comes to those before it

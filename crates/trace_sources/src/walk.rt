@@ -19,7 +19,7 @@ ghost use Rattle.sets.specs.Sets.{member};
 ghost use Rattle.plan.specs.Limits.{inputs, unitLimits};
 ghost use Rattle.plan.specs.Words.{decoded};
 ghost use Rattle.plan.specs.Check.{named};
-ghost use Rattle.plan.specs.Sound.{Within, IndexList, Tested};
+ghost use Rattle.plan.specs.Sound.{Names, Tested};
 ghost use Rattle.plan.specs.Resolved.{resolved};
 ghost use Rattle.trace.specs.Sources.{noSources, union, spread, joins, behind, slotCount};
 ghost use Rattle.trace_sources.specs.Loops.{areaWords, slotWords, sourcesOf, changed, withSlot, Fit, Spans};
@@ -45,7 +45,7 @@ fn with_slot(count: usize, step: Step) -> usize
 
 // The inputs behind the buffers of a span. Requires an index list that was tested, a span within it, and the words of all buffers.
 fn behind_span(plan: Plan, indices: &[u32], area: &[u64], src: Span) -> Set
-    requires { ⌜ IndexList plan (now indices) × Within (plan .indices) src × (length (now area) ≡ areaWords) ⌝ }
+    requires { ⌜ Names plan (now indices) src × (length (now area) ≡ areaWords) ⌝ }
     ensures { λ r. ⌜ ((i : ℕ) → member r i ≡ union (sourcesOf (now (area .entry))) (named (now (indices .entry)) src) i) ⌝ }
 {
     union_of(area, plan_steps::numbers(indices, src))
@@ -70,7 +70,7 @@ fn replace(plan: Plan, indices: &[u32], area: &mut [u64], src: Span, dst: Span)
 
 // Clear. Requires an index list that was tested, a span within it, and the words of all buffers.
 fn clear(plan: Plan, indices: &[u32], area: &mut [u64], dst: Span)
-    requires { ⌜ IndexList plan (now indices) × Within (plan .indices) dst × (length (now area) ≡ areaWords) ⌝ }
+    requires { ⌜ Names plan (now indices) dst × (length (now area) ≡ areaWords) ⌝ }
     ensures { λ _. ⌜ sourcesOf (now (area .exit)) ≡ changed (λ i own. false) (sourcesOf (now (area .entry))) (named (now (indices .entry)) dst) ⌝ }
 {
     give(area, plan_steps::numbers(indices, dst), Set::empty());

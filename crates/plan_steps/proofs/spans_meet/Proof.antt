@@ -5,7 +5,7 @@ use borrow.Author.Needs.{needs}
 use Rattle.lists.specs.Entries.{someFrom}
 use Rattle.lists.proofs.Bools.{and-both}
 use Rattle.sets.specs.Sets.{setSize}
-use Rattle.plan.proofs.Spans.{named-low, apart-none}
+use Rattle.plan.proofs.Spans.{names, names-low, apart-none}
 use Rattle.plan_steps.proofs.spans_meet.Statement.{statement}
 use Rattle.plan_steps.proofs.spans_meet.Tie as tie
 
@@ -29,7 +29,7 @@ lists-meet-requires : tie.Need-lists-meet-requires
 lists-meet-requires c κs =
     let s = c .before .before .before .before .before in
     let a = s .args in
-    ap (someFrom setSize) (c .numbers2 .ensures) ∙ named-low (a .plan) (a .indices .now) (s .pre .0) (a .dst) (s .pre .2)
+    ap (someFrom setSize) (c .numbers2 .ensures) ∙ names-low (a .plan) (a .indices .now) (a .dst) (names (a .plan) (a .indices .now) (s .pre .0) (a .dst) (s .pre .2))
 
 returns-2 : tie.Need-returns-2
 returns-2 c = rw (c .lists-meet .ensures, c .before .numbers2 .ensures, c .before .before .numbers .ensures)

@@ -12,7 +12,7 @@ numbers-requires : tie.Need-numbers-requires
 numbers-requires c κs = search needs
 
 clear-requires : tie.Need-clear-requires
-clear-requires c κs = let s = c .before .before .before .before in span-inside (s .args .plan) (s .args .indices .now) (s .args .buffers .now) (s .pre .0) (s .pre .2) (s .args .dst) (s .pre .1) (c .numbers .ensures)
+clear-requires c κs = let s = c .before .before .before .before in span-inside (s .args .plan) (s .args .indices .now) (s .args .buffers .now) (s .pre .1) (s .args .dst) (s .pre .0) (c .numbers .ensures)
 
 same-length : tie.Need-same-length
 same-length c = search needs

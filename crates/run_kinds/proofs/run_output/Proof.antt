@@ -5,7 +5,7 @@ use Prim.Native.Nat.{ℕ, _+_, _*_, _≤_}
 use native.Mathlib.Omega.{arith}
 use lib.ListN.{length}
 use Rattle.mix.specs.Mix.{appended}
-use Rattle.plan.proofs.Spans.{length-named}
+use Rattle.plan.proofs.Spans.{names-length}
 use Rattle.run_kinds.proofs.Fits.{span-inside}
 use borrow.Author.Needs.{needs}
 use Rattle.run_kinds.proofs.run_output.Statement.{statement}
@@ -16,14 +16,14 @@ room : (c : tie.After-numbers) → (let a = c .before .before .before .before .a
 room c =
     let s = c .before .before .before .before in
     let a = s .args in
-    let e : length (c .numbers .result .now) ≡ a .src .len = ap length (c .numbers .ensures) ∙ length-named (a .indices .now) (a .src) (omega (arith, s .pre .0 .0 .room, s .pre .0 .1)) in
+    let e : length (c .numbers .result .now) ≡ a .src .len = ap length (c .numbers .ensures) ∙ names-length (a .plan) (a .indices .now) (a .src) (s .pre .0 .0) in
     rw e (s .pre .1)
 
 numbers-requires : tie.Need-numbers-requires
 numbers-requires c κs = search needs
 
 append-requires : tie.Need-append-requires
-append-requires c κs = let s = c .before .before .before .before .before in (span-inside (s .args .plan) (s .args .indices .now) (s .args .buffers .now) (s .pre .0 .0) (s .pre .0 .2) (s .args .src) (s .pre .0 .1) (c .before .numbers .ensures), omega (arith, room (c .before)))
+append-requires c κs = let s = c .before .before .before .before .before in (span-inside (s .args .plan) (s .args .indices .now) (s .args .buffers .now) (s .pre .0 .1) (s .args .src) (s .pre .0 .0) (c .before .numbers .ensures), omega (arith, room (c .before)))
 
 mul-result : tie.Need-mul-result
 mul-result c = omega (arith, room (c .before .before .before .before .before))

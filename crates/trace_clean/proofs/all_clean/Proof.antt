@@ -42,7 +42,7 @@ clean-step-requires : tie.Need-clean-step-requires Inv-loop μ-loop
 clean-step-requires c κs =
     let l = c .before .before .before .before .before in
     let a = l .before .before .before .before .args in
-    cleaning-fits (a .plan) (a .indices .now) (a .steps .now) (l .loop .inv) (c .before .before .before .before .loop-test .taken) (sym (c .before .before .before .read-step .ensures) ∙ c .before .step .given .1)
+    cleaning-fits (a .plan) (a .indices .now) (a .steps .now) (l .loop .inv) (c .before .before .before .before .loop-test .taken) (sym (c .before .before .before .read-step .ensures) ∙ c .before .step .given .1) .0
 
 returns-2 : tie.Need-returns-2 Inv-loop μ-loop
 returns-2 c =

@@ -1,13 +1,12 @@
 -- `trace_clean::clean_step` meets its contract, kind by kind. Assumes nothing.
 use mathlib.Core.Path.{refl, sym, ap₂}
 use mathlib.Core.Bool.{_&&_}
-use native.Mathlib.Omega.{arith}
 use lib.Dec.{leb}
 use borrow.Author.Needs.{needs}
 use Rattle.sets.specs.Sets.{member}
-use Rattle.plan.proofs.Accepted.{span-length}
+use Rattle.plan.proofs.Spans.{names-length}
 use Rattle.trace.specs.Clean.{cleanStep}
-use Rattle.trace_clean.proofs.Cleaning.{inside-as, clean-as}
+use Rattle.trace_clean.proofs.Cleaning.{placed-as, clean-as}
 use Rattle.trace_clean.proofs.clean_step.Statement.{statement}
 use Rattle.trace_clean.proofs.clean_step.Tie as tie
 
@@ -20,7 +19,7 @@ enum-known-step c = search needs
 span-in-requires : tie.Need-span-in-requires
 span-in-requires c κs =
     let s = c .before .before .before .before .before .before in
-    omega (arith, inside-as (s .args .plan) (c .before .before .before .step .given .1) (s .pre .1) .1, s .pre .0 .room)
+    placed-as (s .args .plan) (s .args .indices .now) (c .before .before .before .step .given .1) (s .pre) .1 .within
 
 enum-known-step-2 : tie.Need-enum-known-step-2
 enum-known-step-2 c = search needs
@@ -28,7 +27,7 @@ enum-known-step-2 c = search needs
 span-in-requires-2 : tie.Need-span-in-requires-2
 span-in-requires-2 c κs =
     let s = c .before .before .before .before in
-    omega (arith, inside-as (s .args .plan) (c .before .step2 .given .1) (s .pre .1) .1, s .pre .0 .room)
+    placed-as (s .args .plan) (s .args .indices .now) (c .before .step2 .given .1) (s .pre) .1 .within
 
 enum-told-2 : tie.Need-enum-told-2
 enum-told-2 c = search needs
@@ -39,12 +38,12 @@ enum-known-step-3 c = search needs
 span-in-requires-3 : tie.Need-span-in-requires-3
 span-in-requires-3 c κs =
     let s = c .before .before .before .before in
-    omega (arith, inside-as (s .args .plan) (c .before .step3 .given .1) (s .pre .1) .1, s .pre .0 .room)
+    placed-as (s .args .plan) (s .args .indices .now) (c .before .step3 .given .1) (s .pre) .1 .within
 
 span-in-requires-4 : tie.Need-span-in-requires-4
 span-in-requires-4 c κs =
     let s = c .before .before .before .before .before in
-    omega (arith, inside-as (s .args .plan) (c .before .before .step3 .given .1) (s .pre .1) .2, s .pre .0 .room)
+    placed-as (s .args .plan) (s .args .indices .now) (c .before .before .step3 .given .1) (s .pre) .2 .within
 
 enum-known-step-4 : tie.Need-enum-known-step-4
 enum-known-step-4 c = search needs
@@ -52,7 +51,7 @@ enum-known-step-4 c = search needs
 span-in-requires-5 : tie.Need-span-in-requires-5
 span-in-requires-5 c κs =
     let s = c .before .before .before .before in
-    omega (arith, inside-as (s .args .plan) (c .before .step4 .given .1) (s .pre .1) .0, s .pre .0 .room)
+    placed-as (s .args .plan) (s .args .indices .now) (c .before .step4 .given .1) (s .pre) .0 .within
 
 returns : tie.Need-returns
 unfolding cleanStep
@@ -64,9 +63,9 @@ returns-2 c =
     let s = c .before .before .before .before .before .before .before in
     let a = s .args in
     let k = c .before .before .before .before .step .given in
-    let h = inside-as (a .plan) (k .1) (s .pre .1) in
-    let src = span-length (a .plan) (a .indices .now) (s .pre .0) (k .0 .1 .0) (h .1) in
-    let dst = span-length (a .plan) (a .indices .now) (s .pre .0) (k .0 .1 .1 .0) (h .2) in
+    let h = placed-as (a .plan) (a .indices .now) (k .1) (s .pre) in
+    let src = names-length (a .plan) (a .indices .now) (k .0 .1 .0) (h .1) in
+    let dst = names-length (a .plan) (a .indices .now) (k .0 .1 .1 .0) (h .2) in
     clean-as (a .plan) (a .indices .now) (member (a .set)) (k .1) (ap₂ _&&_ (ap₂ leb (sym dst) (sym src)) (c .span-in .ensures))
 
 returns-3 : tie.Need-returns-3

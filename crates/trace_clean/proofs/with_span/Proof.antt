@@ -6,7 +6,7 @@ use Prim.Native.Nat.{ℕ}
 use borrow.Author.Needs.{needs}
 use Rattle.lists.specs.Entries.{someFrom, has}
 use Rattle.sets.specs.Sets.{member, setSize}
-use Rattle.plan.proofs.Spans.{named-low}
+use Rattle.plan.proofs.Spans.{names-low}
 use Rattle.trace_clean.proofs.with_span.Statement.{statement}
 use Rattle.trace_clean.proofs.with_span.Tie as tie
 
@@ -16,7 +16,7 @@ numbers-requires c κs = search needs
 set-of-requires : tie.Need-set-of-requires
 set-of-requires c κs =
     let s = c .before .before in
-    ap (someFrom setSize) (c .numbers .ensures) ∙ named-low (s .args .plan) (s .args .indices .now) (s .pre .0) (s .args .span) (s .pre .1)
+    ap (someFrom setSize) (c .numbers .ensures) ∙ names-low (s .args .plan) (s .args .indices .now) (s .args .span) (s .pre)
 
 union-requires : tie.Need-union-requires
 union-requires c κs = search needs

@@ -6,7 +6,7 @@ use lib.Dec.{eqb}
 use borrow.Author.Needs.{needs}
 use Rattle.sets.specs.Sets.{member}
 use Rattle.trace.specs.Clean.{written}
-use Rattle.trace_clean.proofs.Cleaning.{inside-as, written-as}
+use Rattle.trace_clean.proofs.Cleaning.{placed-as, written-as}
 use Rattle.trace_clean.proofs.written.Statement.{statement}
 use Rattle.trace_clean.proofs.written.Tie as tie
 
@@ -16,8 +16,8 @@ enum-known-step c = search needs
 with-requires : tie.Need-with-requires
 with-requires c κs =
     let s = c .before .before .before .before in
-    let h = inside-as (s .args .plan) (c .before .step .given .1) (s .pre .1) in
-    omega (arith, h .1, s .pre .0 .few)
+    let h = placed-as (s .args .plan) (s .args .indices .now) (c .before .step .given .1) (s .pre .0) in
+    omega (arith, h .1, s .pre .1)
 
 enum-known-step-2 : tie.Need-enum-known-step-2
 enum-known-step-2 c = search needs
@@ -25,8 +25,8 @@ enum-known-step-2 c = search needs
 with-span-requires : tie.Need-with-span-requires
 with-span-requires c κs =
     let s = c .before .before .before .before in
-    let h = inside-as (s .args .plan) (c .before .step2 .given .1) (s .pre .1) in
-    (s .pre .0, h .2)
+    let h = placed-as (s .args .plan) (s .args .indices .now) (c .before .step2 .given .1) (s .pre .0) in
+    h .2
 
 enum-known-step-3 : tie.Need-enum-known-step-3
 enum-known-step-3 c = search needs
@@ -34,8 +34,8 @@ enum-known-step-3 c = search needs
 with-span-requires-2 : tie.Need-with-span-requires-2
 with-span-requires-2 c κs =
     let s = c .before .before .before .before in
-    let h = inside-as (s .args .plan) (c .before .step3 .given .1) (s .pre .1) in
-    (s .pre .0, h .2)
+    let h = placed-as (s .args .plan) (s .args .indices .now) (c .before .step3 .given .1) (s .pre .0) in
+    h .2
 
 enum-known-step-4 : tie.Need-enum-known-step-4
 enum-known-step-4 c = search needs
@@ -43,8 +43,8 @@ enum-known-step-4 c = search needs
 with-span-requires-3 : tie.Need-with-span-requires-3
 with-span-requires-3 c κs =
     let s = c .before .before .before .before in
-    let h = inside-as (s .args .plan) (c .before .step4 .given .1) (s .pre .1) in
-    (s .pre .0, h)
+    let h = placed-as (s .args .plan) (s .args .indices .now) (c .before .step4 .given .1) (s .pre .0) in
+    h
 
 enum-told : tie.Need-enum-told
 enum-told c = search needs

@@ -61,7 +61,7 @@ run-clear-requires : tie.Need-run-clear-requires
 run-clear-requires c κs =
     let s = c .before .before .before .before .before .before .before .before .before .before .before .before .before in
     let f = step-as (c .before .before .step4 .given .1) (s .pre .0 .0) in
-    (f .fit .list, f .inside, f .fit .buffers)
+    (f .inside, f .fit .buffers)
 
 enum-known-step-5 : tie.Need-enum-known-step-5
 enum-known-step-5 c = search needs
@@ -88,7 +88,7 @@ run-output-requires c κs =
     let s = c .before .before .before .before .before .before .before .before .before .before .before .before .before .before in
     let e = c .before .before .before .step6 .given .1 in
     let f = step-as e (s .pre .0 .0) in
-    ((f .fit .list, f .inside .0, f .fit .buffers), output-room _ _ _ _ _ e (s .pre .0 .1))
+    ((f .inside .0, f .fit .buffers), output-room _ _ _ _ _ e (s .pre .0 .1))
 
 same-length : tie.Need-same-length
 same-length c = search needs

@@ -5,7 +5,7 @@ use Prim.Native.Nat.{ℕ}
 use borrow.Author.Needs.{needs}
 use Rattle.lists.specs.Entries.{someFrom}
 use Rattle.plan.specs.Limits.{unitLimits}
-use Rattle.plan.proofs.Spans.{named-low}
+use Rattle.plan.proofs.Spans.{names-low}
 use Rattle.trace.specs.Sources.{union}
 use Rattle.trace_sources.specs.Loops.{sourcesOf}
 use Rattle.trace_sources.proofs.walk.behind_span.Statement.{statement}
@@ -17,7 +17,7 @@ numbers-requires c κs = search needs
 union-of-requires : tie.Need-union-of-requires
 union-of-requires c κs =
     let s = c .before .before .before in
-    (ap (someFrom (unitLimits .buffers)) (c .numbers .ensures) ∙ named-low (s .args .plan) (s .args .indices .now) (s .pre .0) (s .args .src) (s .pre .1), s .pre .2)
+    (ap (someFrom (unitLimits .buffers)) (c .numbers .ensures) ∙ names-low (s .args .plan) (s .args .indices .now) (s .args .src) (s .pre .0), s .pre .1)
 
 returns : tie.Need-returns
 returns c i = c .union-of .ensures i ∙ ap (λ (l : List ℕ). union (sourcesOf (c .before .before .before .before .args .area .now)) l i) (c .before .numbers .ensures)

@@ -4,7 +4,7 @@ use mathlib.Core.Bool.{false}
 use borrow.Author.Needs.{needs}
 use Rattle.lists.specs.Entries.{someFrom}
 use Rattle.plan.specs.Limits.{unitLimits}
-use Rattle.plan.proofs.Spans.{named-low}
+use Rattle.plan.proofs.Spans.{names-low}
 use Rattle.trace_sources.specs.Loops.{sourcesOf, other}
 use Rattle.trace_sources.proofs.Stored.{changed-as}
 use Rattle.trace_sources.proofs.walk.clear.Statement.{statement}
@@ -19,7 +19,7 @@ empty-requires c κs = search needs
 give-requires : tie.Need-give-requires
 give-requires c κs =
     let s = c .before .before .before .before .before in
-    (ap (someFrom (unitLimits .buffers)) (c .before .numbers .ensures) ∙ named-low (s .args .plan) (s .args .indices .now) (s .pre .0) (s .args .dst) (s .pre .1), s .pre .2)
+    (ap (someFrom (unitLimits .buffers)) (c .before .numbers .ensures) ∙ names-low (s .args .plan) (s .args .indices .now) (s .args .dst) (s .pre .0), s .pre .1)
 
 same-length : tie.Need-same-length
 same-length c = search needs

@@ -26,7 +26,7 @@ load-requires c κs =
 behind-span-requires : tie.Need-behind-span-requires
 behind-span-requires c κs =
     let f = fit-as (c .before .before .before .step .given .1) (c .before .before .before .before .before .before .before .before .pre .0) in
-    (f .list, f .inside .0, f .room)
+    (f .inside .0, f .room)
 
 union-requires : tie.Need-union-requires
 union-requires c κs = search needs

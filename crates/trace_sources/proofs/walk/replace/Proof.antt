@@ -4,7 +4,7 @@ use borrow.Author.Needs.{needs}
 use Rattle.lists.specs.Entries.{someFrom}
 use Rattle.plan.specs.Limits.{unitLimits}
 use Rattle.plan.specs.Check.{named}
-use Rattle.plan.proofs.Spans.{named-low}
+use Rattle.plan.proofs.Spans.{names-low}
 use Rattle.trace.specs.Sources.{union}
 use Rattle.trace_sources.specs.Loops.{sourcesOf, other}
 use Rattle.trace_sources.proofs.Stored.{changed-as}
@@ -20,7 +20,7 @@ numbers-requires c κs = search needs
 give-requires : tie.Need-give-requires
 give-requires c κs =
     let s = c .before .before .before .before .before .before in
-    (ap (someFrom (unitLimits .buffers)) (c .numbers .ensures) ∙ named-low (s .args .plan) (s .args .indices .now) (s .pre .list) (s .args .dst) (s .pre .targets), s .pre .room)
+    (ap (someFrom (unitLimits .buffers)) (c .numbers .ensures) ∙ names-low (s .args .plan) (s .args .indices .now) (s .args .dst) (s .pre .targets), s .pre .room)
 
 same-length : tie.Need-same-length
 same-length c = search needs

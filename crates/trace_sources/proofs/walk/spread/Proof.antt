@@ -14,7 +14,7 @@ enum-known-step c = search needs
 patch-requires : tie.Need-patch-requires
 patch-requires c κs =
     let f = fit-as (c .before .before .step .given .1) (c .before .before .before .before .before .before .pre) in
-    (f .inside .0, omega (arith, f .inside .1, f .list .few), f .room)
+    (f .inside .0, omega (arith, f .inside .1, f .few), f .room)
 
 enum-known-step-2 : tie.Need-enum-known-step-2
 enum-known-step-2 c = search needs
@@ -38,7 +38,7 @@ enum-known-step-4 c = search needs
 clear-requires : tie.Need-clear-requires
 clear-requires c κs =
     let f = fit-as (c .before .before .step4 .given .1) (c .before .before .before .before .before .before .pre) in
-    (f .list, f .inside, f .room)
+    (f .inside, f .room)
 
 enum-known-step-5 : tie.Need-enum-known-step-5
 enum-known-step-5 c = search needs
