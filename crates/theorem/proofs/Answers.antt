@@ -1,12 +1,13 @@
--- Two builds of the same accepted calls, for any two blocks: the plan check, the clean answer and the trace say the same of both.
+-- Two states that hold one and the same draft, for any two blocks: the plan check, the clean answer and the trace say the same of both.
 -- Assumes nothing.
-use mathlib.Core.Path.{_≡_, refl, sym, ap, _∙_}
+use mathlib.Core.Path.{_≡_, refl, sym, ap, _∙_, subst}
 use mathlib.Core.Bool.{Bool, false, cond}
 use mathlib.Core.List.{List, [], _∷_}
-use Prim.Native.Nat.{ℕ, zero, suc, _+_, _<_}
+use Prim.Native.Nat.{ℕ, zero, suc, _+_, _*_, _≤_, _<_}
+use native.Mathlib.Nat.{min-le-right}
 use native.Mathlib.Omega.{arith}
 use lib.Dec.{ltb, leb}
-use lib.ListN.{length, getD, take}
+use lib.ListN.{length, getD, take, length-take}
 use lib.Seq.{sets}
 use Rattle.refusal.specs.Numbers.{shortArea, noSlot}
 use Rattle.refusal.specs.Tests.{Test, test, first, outcome}
@@ -15,37 +16,30 @@ use Rattle.refusal.specs.declared.Answer.{Answer}
 use Rattle.refusal.specs.declared.Answer.the-variants.{Accepted, Refused}
 use Rattle.refusal.proofs.Laws.{accepted-none, first-append, none-rest, refused-rest}
 use Rattle.node.specs.declared.Node.{Node}
-use Rattle.node.specs.Areas.{idAt, nodeAt, nodes}
+use Rattle.node.specs.Sizes.{nodeWords}
+use Rattle.node.specs.Areas.{idAt, nodeAt}
 use Rattle.node.proofs.Areas.{getD-nodes}
 use Rattle.plan.specs.declared.Plan.{Plan}
 use Rattle.plan.specs.declared.Step.{Step}
 use Rattle.plan.specs.declared.Step.the-variants.{Patch, Gain, Matrix, Clear, Send, Output}
 use Rattle.plan.specs.declared.Read.{Read}
 use Rattle.plan.specs.declared.Read.the-variants.{Found, Bad}
-use Rattle.plan.specs.Limits.{Limits, unitLimits, badBlock}
+use Rattle.plan.specs.Limits.{badBlock}
 use Rattle.plan.specs.Areas.{shortLists}
 use Rattle.plan.specs.Words.{readAt}
 use Rattle.plan.specs.Resolved.{Resolved}
 use Rattle.plan.specs.Check.{outside, stepTests, stepsTests, planTests, checked}
-use Rattle.plan.proofs.Plans.{ListRoom, lists-none}
+use Rattle.plan.proofs.Plans.{lists-none}
 use Rattle.plan.proofs.Exact.{accepted-sound}
 use Rattle.plan.proofs.Front.{check-front}
-use Rattle.builder.specs.Calls.{newAnswer, newTests}
-use Rattle.builder.specs.Built.{Call, buffers, coefficients, node, step, State, answer, after, built}
-use Rattle.builder.proofs.Refusals.{refused-nothing}
-use Rattle.builder.proofs.Kept.{accepted-kept}
-use Rattle.builder.proofs.Outcomes.{plan-accepted}
-use Rattle.builder.proofs.Fits.{buffers-fit, node-fits, step-fits}
-use Rattle.builder.specs.Growth.{buffersGrowth, coefficientsGrowth, nodeGrowth, stepGrowth}
-use Rattle.builder.specs.Calls.{recordLength}
+use Rattle.builder.specs.Built.{State, Draft, Holds}
 use Rattle.trace.specs.Sources.{sourceList, slotCount}
 use Rattle.trace.specs.Clean.{clean}
 use Rattle.trace.specs.Calls.{tracedSteps, traceAnswer, sourcesAnswer, sourcesArea, cleanAnswer}
 use Rattle.trace.specs.declared.Sources.the-variants as sources
 use Rattle.trace.specs.declared.CleanAnswer.the-variants as answers
-use Rattle.theorem.specs.Builds.{Build, begun, grown, acceptedCalls}
 use Rattle.theorem.proofs.Nodes.{nobody}
-use Rattle.theorem.proofs.Drafts.{block-kept, holds, holds-too, same-nodes, same-traced}
+use Rattle.theorem.proofs.Drafts.{same-nodes, same-traced}
 
 -- ---- a plan with another block
 
@@ -82,47 +76,27 @@ module _ (p : Plan) (n : ℕ) where
   unfolding checked
   checked-block e short indices words steps = ap (λ (ts : List Test). first ts Accepted) (tests-block e short indices words steps)
 
--- ---- the areas of a build have what its plan counts
-abbrev Roomy : State → Type 0
-Roomy s = ListRoom (s .plan) (s .indices) (s .words) (s .steps)
+-- ---- a draft in its place
 
-module _ (l : Limits) where
-  room-accepted : (s : State) (c : Call) → Roomy s → answer l s c ≡ Accepted → Roomy (after l s c)
-  room-accepted s (buffers n) r e =
-      let k = accepted-kept l s (buffers n) e in
-      let f = buffers-fit l (s .plan) n (length (s .indices)) e in
-      let g = plan-accepted (s .plan) (buffersGrowth n) e in
-      record { entries = rw (g, k .indices .length) (f .area); nodes = rw g (r .nodes); step-words = rw g (r .step-words) }
-  room-accepted s (coefficients xs) r e =
-      let g = plan-accepted (s .plan) (coefficientsGrowth (length xs)) e in
-      record { entries = rw g (r .entries); nodes = rw g (r .nodes); step-words = rw g (r .step-words) }
-  room-accepted s (node id xs ramp) r e =
-      let k = accepted-kept l s (node id xs ramp) e in
-      let f = node-fits l (s .plan) id (length xs) ramp (length (s .floats)) (s .words) e in
-      let g = plan-accepted (s .plan) nodeGrowth e in
-      record { entries = rw g (r .entries); nodes = rw (g, k .words .length) (f .words); step-words = rw g (r .step-words) }
-  room-accepted s (step w) r e =
-      let k = accepted-kept l s (step w) e in
-      let f = step-fits l (s .plan) w (length (s .steps)) e in
-      let g = plan-accepted (s .plan) (stepGrowth (recordLength w)) e in
-      record { entries = rw g (r .entries); nodes = rw g (r .nodes); step-words = rw (g, k .steps .length) (f .area) }
+-- A state that holds a draft, with areas that have the words of its nodes, for a block within the limits. That they have the draft's other lists follows.
+pub record Placed (s : State) (d : Draft) : Type 0 where
+  pub holds : Holds s d
+  pub nodes : s .plan .nodes * nodeWords ≤ length (s .words)
+  pub block : badBlock (s .plan .block) ≡ false
 
-  room-built : (cs : List Call) (s : State) → Roomy s → Roomy (built l s cs)
-  room-built [] s r = r
-  room-built (c ∷ cs) s r = room-built cs (after l s c) (go (answer l s c) refl)
-    where
-      go : (t : Answer) → answer l s c ≡ t → Roomy (after l s c)
-      go Accepted e = room-accepted s c r e
-      go (Refused q) e = rw (refused-nothing l s c q e) r
+-- a list that has the front of a count has as many entries
+front-room : (n : ℕ) (xs ys : List ℕ) → take n xs ≡ ys → n ≡ length ys → n ≤ length xs
+front-room n xs ys e c = subst (λ (k : ℕ). k ≤ length xs) (sym (length-take n xs) ∙ ap length e ∙ sym c) (min-le-right n (length xs))
 
-long-enough : (b : Build) → shortLists (grown b .plan) (grown b .indices) (grown b .words) (grown b .steps) ≡ false
-long-enough b =
-    lists-none (grown b .plan) (grown b .indices) (grown b .words) (grown b .steps) .1
-    (room-built unitLimits (b .calls) (begun b) (record { entries = omega arith; nodes = omega arith; step-words = omega arith }))
-
-good-block : (b : Build) → newAnswer (b .block) ≡ Accepted → badBlock (grown b .plan .block) ≡ false
-unfolding newAnswer
-good-block b e = rw (block-kept b) (accepted-none (newTests (b .block)) Accepted e .0 .0)
+long-enough : (s : State) (d : Draft) → Placed s d → shortLists (s .plan) (s .indices) (s .words) (s .steps) ≡ false
+long-enough s d t =
+    let h = t .holds in
+    lists-none (s .plan) (s .indices) (s .words) (s .steps) .1
+    (record {
+      entries = front-room (s .plan .indices) (s .indices) (d .indices) (h .indices) (h .index-count);
+      nodes = t .nodes;
+      step-words = front-room (s .plan .words) (s .steps) (d .words) (h .words) (h .word-count);
+    })
 
 -- ---- the calls that are lent the index list, the node words and the step words
 abbrev checkedLists : State → Answer
@@ -157,74 +131,75 @@ turned : {A : Type 0} (t : Answer) (own : Answer) (done : A) (refused : Refusal 
 turned Accepted own done refused = refl
 turned (Refused r) own done refused = refl
 
--- ---- two builds
-module _ (b₁ b₂ : Build) (e : acceptedCalls b₁ ≡ acceptedCalls b₂) (new₁ : newAnswer (b₁ .block) ≡ Accepted) (new₂ : newAnswer (b₂ .block) ≡ Accepted) where
+-- ---- two states of one draft
+
+-- the plan check, the clean answer, the trace's answer and the list's area after it say the same of both
+pub record SameAnswers (s₁ s₂ : State) : Type 0 where
+  pub same-check : checkedLists s₂ ≡ checkedLists s₁
+  pub same-clean : cleanAnswer (s₂ .plan) (s₂ .indices) (s₂ .words) (s₂ .steps) ≡ cleanAnswer (s₁ .plan) (s₁ .indices) (s₁ .words) (s₁ .steps)
+  pub same-sources : (slot n : ℕ)
+      → sourcesAnswer (s₂ .plan) slot (s₂ .indices) (s₂ .words) (s₂ .steps) n ≡ sourcesAnswer (s₁ .plan) slot (s₁ .indices) (s₁ .words) (s₁ .steps) n
+  pub same-list : (slot : ℕ) (area : List ℕ)
+      → sourcesArea (s₂ .plan) slot (s₂ .indices) (s₂ .words) (s₂ .steps) area ≡ sourcesArea (s₁ .plan) slot (s₁ .indices) (s₁ .words) (s₁ .steps) area
+
+module _ (s₁ s₂ : State) (d : Draft) (t₁ : Placed s₁ d) (t₂ : Placed s₂ d) where
+  abbrev h₁ : Holds s₁ d
+  h₁ = t₁ .holds
+
+  abbrev h₂ : Holds s₂ d
+  h₂ = t₂ .holds
+
   abbrev p₁ : Plan
-  p₁ = grown b₁ .plan
+  p₁ = s₁ .plan
 
   abbrev p₂ : Plan
-  p₂ = grown b₂ .plan
+  p₂ = s₂ .plan
 
-  same-record : grown b₂ .plan ≡ withBlock (grown b₁ .plan) (grown b₂ .plan .block)
+  same-record : s₂ .plan ≡ withBlock (s₁ .plan) (s₂ .plan .block)
   same-record =
-      let h = holds b₁ in
-      let k = holds-too b₁ b₂ e in
       λ i. record {
-        block = grown b₂ .plan .block;
-        buffers = (k .buffers ∙ sym (h .buffers)) i;
-        indices = (k .index-count ∙ sym (h .index-count)) i;
-        coefficients = (k .coefficient-count ∙ sym (h .coefficient-count)) i;
-        nodes = (k .node-count ∙ sym (h .node-count)) i;
-        steps = (k .step-count ∙ sym (h .step-count)) i;
-        words = (k .word-count ∙ sym (h .word-count)) i;
+        block = s₂ .plan .block;
+        buffers = (h₂ .buffers ∙ sym (h₁ .buffers)) i;
+        indices = (h₂ .index-count ∙ sym (h₁ .index-count)) i;
+        coefficients = (h₂ .coefficient-count ∙ sym (h₁ .coefficient-count)) i;
+        nodes = (h₂ .node-count ∙ sym (h₁ .node-count)) i;
+        steps = (h₂ .step-count ∙ sym (h₁ .step-count)) i;
+        words = (h₂ .word-count ∙ sym (h₁ .word-count)) i;
       }
 
-  same-ids : (i : ℕ) → i < grown b₁ .plan .nodes → idAt (grown b₂ .words) i ≡ idAt (grown b₁ .words) i
+  same-ids : (i : ℕ) → i < s₁ .plan .nodes → idAt (s₂ .words) i ≡ idAt (s₁ .words) i
   unfolding nodeAt
   same-ids i l =
-      let h = holds b₁ in
-      let k = holds-too b₁ b₂ e in
-      let g₁ = getD-nodes (grown b₁ .plan .nodes) (grown b₁ .floats) (grown b₁ .words) i nobody l in
-      let g₂ = getD-nodes (grown b₂ .plan .nodes) (grown b₂ .floats) (grown b₂ .words) i nobody (omega (arith, k .node-count, h .node-count)) in
-      ap (λ (x : Node). x .id) (sym g₂ ∙ ap (λ (ns : List Node). getD ns i nobody) (sym (same-nodes b₁ b₂ e)) ∙ g₁)
+      let g₁ = getD-nodes (p₁ .nodes) (s₁ .floats) (s₁ .words) i nobody l in
+      let g₂ = getD-nodes (p₂ .nodes) (s₂ .floats) (s₂ .words) i nobody (omega (arith, h₂ .node-count, h₁ .node-count)) in
+      ap (λ (x : Node). x .id) (sym g₂ ∙ ap (λ (ns : List Node). getD ns i nobody) (sym (same-nodes s₁ s₂ d h₁ h₂)) ∙ g₁)
 
-  -- the plan check
-  pub same-check : checked (grown b₂ .plan) (shortLists (grown b₂ .plan) (grown b₂ .indices) (grown b₂ .words) (grown b₂ .steps)) (grown b₂ .indices) (grown b₂ .words) (grown b₂ .steps)
-      ≡ checked (grown b₁ .plan) (shortLists (grown b₁ .plan) (grown b₁ .indices) (grown b₁ .words) (grown b₁ .steps)) (grown b₁ .indices) (grown b₁ .words) (grown b₁ .steps)
-  same-check =
-      let h = holds b₁ in
-      let k = holds-too b₁ b₂ e in
-      let indices : take (p₁ .indices) (grown b₂ .indices) ≡ take (p₁ .indices) (grown b₁ .indices) = rw (h .index-count, ← k .index-count) (k .indices) ∙ sym (h .indices) in
-      let words : take (p₁ .words) (grown b₂ .steps) ≡ take (p₁ .words) (grown b₁ .steps) = rw (h .word-count, ← k .word-count) (k .words) ∙ sym (h .words) in
-      ap (λ (t : Bool). checked p₂ t (grown b₂ .indices) (grown b₂ .words) (grown b₂ .steps)) (long-enough b₂)
-      ∙ ap (λ (p : Plan). checked p false (grown b₂ .indices) (grown b₂ .words) (grown b₂ .steps)) same-record
-      ∙ checked-block p₁ (p₂ .block) (good-block b₂ new₂ ∙ sym (good-block b₁ new₁)) false (grown b₂ .indices) (grown b₂ .words) (grown b₂ .steps)
-      ∙ check-front p₁ false (grown b₂ .indices) (grown b₁ .indices) (grown b₂ .words) (grown b₁ .words) (grown b₂ .steps) (grown b₁ .steps) indices same-ids words
-      ∙ ap (λ (t : Bool). checked p₁ t (grown b₁ .indices) (grown b₁ .words) (grown b₁ .steps)) (sym (long-enough b₁))
+  check-same : checkedLists s₂ ≡ checkedLists s₁
+  check-same =
+      let indices : take (p₁ .indices) (s₂ .indices) ≡ take (p₁ .indices) (s₁ .indices) = rw (h₁ .index-count, ← h₂ .index-count) (h₂ .indices) ∙ sym (h₁ .indices) in
+      let words : take (p₁ .words) (s₂ .steps) ≡ take (p₁ .words) (s₁ .steps) = rw (h₁ .word-count, ← h₂ .word-count) (h₂ .words) ∙ sym (h₁ .words) in
+      ap (λ (t : Bool). checked p₂ t (s₂ .indices) (s₂ .words) (s₂ .steps)) (long-enough s₂ d t₂)
+      ∙ ap (λ (p : Plan). checked p false (s₂ .indices) (s₂ .words) (s₂ .steps)) same-record
+      ∙ checked-block p₁ (p₂ .block) (t₂ .block ∙ sym (t₁ .block)) false (s₂ .indices) (s₂ .words) (s₂ .steps)
+      ∙ check-front p₁ false (s₂ .indices) (s₁ .indices) (s₂ .words) (s₁ .words) (s₂ .steps) (s₁ .steps) indices same-ids words
+      ∙ ap (λ (t : Bool). checked p₁ t (s₁ .indices) (s₁ .words) (s₁ .steps)) (sym (long-enough s₁ d t₁))
 
   -- what is made of an accepted plan's steps is the same of both, and so is a refusal
   by-steps : {A : Type 0} (made : List Resolved → A) (refused : Refusal → A)
-      → outcome (checkedLists (grown b₂)) (made (traced (grown b₂))) refused ≡ outcome (checkedLists (grown b₁)) (made (traced (grown b₁))) refused
-  by-steps {A} made refused = go (checkedLists (grown b₁)) refl
+      → outcome (checkedLists s₂) (made (traced s₂)) refused ≡ outcome (checkedLists s₁) (made (traced s₁)) refused
+  by-steps {A} made refused = go (checkedLists s₁) refl
     where
-      go : (t : Answer) → checkedLists (grown b₁) ≡ t
-          → outcome (checkedLists (grown b₂)) (made (traced (grown b₂))) refused ≡ outcome (checkedLists (grown b₁)) (made (traced (grown b₁))) refused
+      go : (t : Answer) → checkedLists s₁ ≡ t → outcome (checkedLists s₂) (made (traced s₂)) refused ≡ outcome (checkedLists s₁) (made (traced s₁)) refused
       go Accepted q =
-          let inside = accepted-sound p₁ (shortLists p₁ (grown b₁ .indices) (grown b₁ .words) (grown b₁ .steps)) (grown b₁ .indices) (grown b₁ .words) (grown b₁ .steps) q .inside in
-          ap (λ (t : Answer). outcome t (made (traced (grown b₂))) refused) same-check
-          ∙ ap (λ (xs : List Resolved). outcome (checkedLists (grown b₁)) (made xs) refused) (same-traced b₁ b₂ e inside)
-      go (Refused r) q = rw (same-check, q) refl
+          let inside = accepted-sound p₁ (shortLists p₁ (s₁ .indices) (s₁ .words) (s₁ .steps)) (s₁ .indices) (s₁ .words) (s₁ .steps) q .inside in
+          ap (λ (t : Answer). outcome t (made (traced s₂)) refused) check-same
+          ∙ ap (λ (xs : List Resolved). outcome (checkedLists s₁) (made xs) refused) (same-traced s₁ s₂ d h₁ h₂ inside)
+      go (Refused r) q = rw (check-same, q) refl
 
-  -- the clean answer
-  pub same-clean : cleanAnswer (grown b₂ .plan) (grown b₂ .indices) (grown b₂ .words) (grown b₂ .steps) ≡ cleanAnswer (grown b₁ .plan) (grown b₁ .indices) (grown b₁ .words) (grown b₁ .steps)
-  unfolding cleanAnswer
-  same-clean = by-steps (λ xs. cond (clean xs) answers.Clean answers.NotClean) answers.Refused
-
-  -- the trace's answer, and the list's area after it
   by-trace : {A : Type 0} (slot n : ℕ) (made : List Resolved → A) (refused : Refusal → A)
-      → outcome (traceAnswer (grown b₂ .plan) slot (grown b₂ .indices) (grown b₂ .words) (grown b₂ .steps) n) (made (traced (grown b₂))) refused
-      ≡ outcome (traceAnswer (grown b₁ .plan) slot (grown b₁ .indices) (grown b₁ .words) (grown b₁ .steps) n) (made (traced (grown b₁))) refused
-  by-trace {A} slot n made refused = each (grown b₂) ∙ by-steps (λ xs. outcome (first (slotTests slot n xs) Accepted) (made xs) refused) refused ∙ sym (each (grown b₁))
+      → outcome (traceAnswer (s₂ .plan) slot (s₂ .indices) (s₂ .words) (s₂ .steps) n) (made (traced s₂)) refused
+      ≡ outcome (traceAnswer (s₁ .plan) slot (s₁ .indices) (s₁ .words) (s₁ .steps) n) (made (traced s₁)) refused
+  by-trace {A} slot n made refused = each s₂ ∙ by-steps (λ xs. outcome (first (slotTests slot n xs) Accepted) (made xs) refused) refused ∙ sym (each s₁)
     where
       each : (s : State) → outcome (traceAnswer (s .plan) slot (s .indices) (s .words) (s .steps) n) (made (traced s)) refused
           ≡ outcome (checkedLists s) (outcome (first (slotTests slot n (traced s)) Accepted) (made (traced s)) refused) refused
@@ -232,14 +207,12 @@ module _ (b₁ b₂ : Build) (e : acceptedCalls b₁ ≡ acceptedCalls b₂) (ne
           ap (λ (t : Answer). outcome t (made (traced s)) refused) (in-turn s slot n)
           ∙ turned (checkedLists s) (first (slotTests slot n (traced s)) Accepted) (made (traced s)) refused
 
-  pub same-sources : (slot n : ℕ)
-      → sourcesAnswer (grown b₂ .plan) slot (grown b₂ .indices) (grown b₂ .words) (grown b₂ .steps) n
-      ≡ sourcesAnswer (grown b₁ .plan) slot (grown b₁ .indices) (grown b₁ .words) (grown b₁ .steps) n
-  unfolding sourcesAnswer
-  same-sources slot n = by-trace slot n (λ xs. sources.Listed (length (sourceList slot xs))) sources.Refused
-
-  pub same-list : (slot : ℕ) (area : List ℕ)
-      → sourcesArea (grown b₂ .plan) slot (grown b₂ .indices) (grown b₂ .words) (grown b₂ .steps) area
-      ≡ sourcesArea (grown b₁ .plan) slot (grown b₁ .indices) (grown b₁ .words) (grown b₁ .steps) area
-  unfolding sourcesArea
-  same-list slot area = by-trace slot (length area) (λ xs. sets area 0 (sourceList slot xs)) (λ _. area)
+  pub same-answers : SameAnswers s₁ s₂
+  unfolding cleanAnswer sourcesAnswer sourcesArea
+  same-answers =
+      record {
+        same-check = check-same;
+        same-clean = by-steps (λ xs. cond (clean xs) answers.Clean answers.NotClean) answers.Refused;
+        same-sources = λ slot n. by-trace slot n (λ xs. sources.Listed (length (sourceList slot xs))) sources.Refused;
+        same-list = λ slot area. by-trace slot (length area) (λ xs. sets area 0 (sourceList slot xs)) (λ _. area);
+      }

@@ -1,56 +1,32 @@
--- Two builds of the same accepted calls: the same counts, steps and nodes, whatever the areas hold besides, and so the same answers.
--- Assumes nothing.
+-- Two states of the builder that hold one and the same draft, however they came to it: as later calls get them, they have the same steps, nodes and
+-- counts, whatever the areas hold besides. Assumes nothing.
 use mathlib.Core.Path.{_≡_, refl, sym, ap, _∙_, subst}
-use mathlib.Core.List.{List, [], _∷_, _++_, map}
-use Prim.Native.Nat.{ℕ, zero, suc}
+use mathlib.Core.List.{List, [], _∷_, map}
+use Prim.Native.Nat.{ℕ}
 use lib.ListN.{length, take}
 use lib.Ieee.{Float}
 use Rattle.lists.proofs.Stores.{part-take}
-use Rattle.refusal.specs.declared.Answer.{Answer}
-use Rattle.refusal.specs.declared.Answer.the-variants.{Accepted, Refused}
-use Rattle.node.specs.declared.Node.{Node}
-use Rattle.node.specs.Nodes.{newNode}
 use Rattle.node.specs.Areas.{nodes}
-use Rattle.node.proofs.Left.{left-new}
 use Rattle.plan.specs.declared.Plan.{Plan}
 use Rattle.plan.specs.declared.Step.{Step}
 use Rattle.plan.specs.declared.Step.the-variants.{Patch, Gain, Matrix, Clear, Send, Output}
-use Rattle.plan.specs.Limits.{Limits, unitLimits}
 use Rattle.plan.specs.Resolved.{resolved, resolvedSteps}
 use Rattle.plan.specs.Sound.{Within, Inside, Each, stepsOf}
 use Rattle.plan.proofs.Spans.{named-front}
-use Rattle.builder.specs.Built.{Call, buffers, coefficients, node, step, State, answer, after, built, Draft, noDraft, given, drafted, Holds}
-use Rattle.builder.proofs.Refusals.{refused-nothing}
-use Rattle.builder.proofs.Kept.{accepted-kept}
-use Rattle.builder.proofs.ReadBack.{read-back, held-decoded}
+use Rattle.builder.specs.Built.{State, Draft, Holds}
+use Rattle.builder.proofs.ReadBack.{held-decoded}
 use Rattle.trace.specs.Calls.{tracedSteps}
-use Rattle.theorem.specs.Builds.{Build, begun, grown, acceptedCalls, NoRampBuilt}
-use Rattle.theorem.proofs.Nodes.{AtRest}
+use Rattle.run.specs.Calls.{Fixed, Held, stepsOfPlan}
+use Rattle.theorem.proofs.OneDraft.{OneDraft}
 
--- ---- the block stays
-module _ (l : Limits) where
-  block-after : (s : State) (c : Call) → after l s c .plan .block ≡ s .plan .block
-  block-after s c = go (answer l s c) refl
-    where
-      go : (a : Answer) → answer l s c ≡ a → after l s c .plan .block ≡ s .plan .block
-      go Accepted e = accepted-kept l s c e .block
-      go (Refused r) e = ap (λ (t : State). t .plan .block) (refused-nothing l s c r e)
+-- ---- a state of the builder, as later calls get it
+abbrev pub planOf : State → Fixed
+planOf s = record { plan = s .plan; indices = s .indices; coefficients = s .coefficients; steps = s .steps }
 
-  block-built : (cs : List Call) (s : State) → built l s cs .plan .block ≡ s .plan .block
-  block-built [] s = refl
-  block-built (c ∷ cs) s = block-built cs (after l s c) ∙ block-after s c
+abbrev pub areasOf : State → List Float → Held
+areasOf s buffers = record { floats = s .floats; words = s .words; buffers = buffers }
 
-pub block-kept : (b : Build) → grown b .plan .block ≡ b .block
-block-kept b = block-built unitLimits (b .calls) (begun b)
-
--- ---- what a build holds
-abbrev pub draft : Build → Draft
-draft b = drafted noDraft (acceptedCalls b)
-
-pub holds : (b : Build) → Holds (grown b) (draft b)
-holds b = read-back unitLimits (b .block) (begun b) refl (b .calls)
-
--- ---- its steps, from the draft alone
+-- ---- the steps, from the draft alone
 
 -- the spans of a step, within m index entries and k coefficients
 abbrev Spans : ℕ → ℕ → Step → Type 0
@@ -91,56 +67,30 @@ held-steps s d h spans xs =
     ∙ sym (all-front (length (d .indices)) (length (d .coefficients)) (s .indices) xs (d .steps) spans)
     ∙ rw (← h .index-count, h .indices)
 
--- ---- two builds
-module _ (b₁ b₂ : Build) (e : acceptedCalls b₁ ≡ acceptedCalls b₂) where
-  -- the second holds the draft of the first
-  pub holds-too : Holds (grown b₂) (draft b₁)
-  holds-too = subst (λ (cs : List Call). Holds (grown b₂) (drafted noDraft cs)) (sym e) (holds b₂)
+-- ---- two states of one draft
+module _ (s₁ s₂ : State) (d : Draft) (h₁ : Holds s₁ d) (h₂ : Holds s₂ d) where
+  pub same-nodes : nodes (s₁ .plan .nodes) (s₁ .floats) (s₁ .words) ≡ nodes (s₂ .plan .nodes) (s₂ .floats) (s₂ .words)
+  same-nodes = h₁ .nodes ∙ sym (h₂ .nodes)
 
-  pub same-nodes : nodes (grown b₁ .plan .nodes) (grown b₁ .floats) (grown b₁ .words) ≡ nodes (grown b₂ .plan .nodes) (grown b₂ .floats) (grown b₂ .words)
-  same-nodes = holds b₁ .nodes ∙ sym (holds-too .nodes)
-
-  module _ (inside : Each (Inside (grown b₁ .plan)) (stepsOf (grown b₁ .plan) (grown b₁ .steps))) where
-    spans : Each (Spans (length (draft b₁ .indices)) (length (draft b₁ .coefficients))) (draft b₁ .steps)
+  module _ (inside : Each (Inside (s₁ .plan)) (stepsOf (s₁ .plan) (s₁ .steps))) where
+    spans : Each (Spans (length (d .indices)) (length (d .coefficients))) (d .steps)
     spans =
-        let h = holds b₁ in
-        let p = grown b₁ .plan in
-        rw (← h .index-count, ← h .coefficient-count)
-        (subst (λ (ss : List Step). Each (Spans (p .indices) (p .coefficients)) ss) (held-decoded (grown b₁) (draft b₁) h) (spans-inside p (stepsOf p (grown b₁ .steps)) inside))
+        let p = s₁ .plan in
+        rw (← h₁ .index-count, ← h₁ .coefficient-count)
+        (subst (λ (ss : List Step). Each (Spans (p .indices) (p .coefficients)) ss) (held-decoded s₁ d h₁) (spans-inside p (stepsOf p (s₁ .steps)) inside))
 
-    pub same-steps : resolvedSteps (grown b₂ .plan) (grown b₂ .indices) (grown b₂ .coefficients) (grown b₂ .steps)
-        ≡ resolvedSteps (grown b₁ .plan) (grown b₁ .indices) (grown b₁ .coefficients) (grown b₁ .steps)
+    same-steps : stepsOfPlan (planOf s₂) ≡ stepsOfPlan (planOf s₁)
     same-steps =
-        let h = holds b₁ in
-        let d = draft b₁ in
-        held-steps (grown b₂) d holds-too spans (grown b₂ .coefficients)
-        ∙ ap (λ (xs : List Float). map (resolved (d .indices) xs) (d .steps)) (coefficients-too ∙ sym (coefficients-are h))
-        ∙ sym (held-steps (grown b₁) d h spans (grown b₁ .coefficients))
+        held-steps s₂ d h₂ spans (s₂ .coefficients)
+        ∙ ap (λ (xs : List Float). map (resolved (d .indices) xs) (d .steps)) (coefficients-are s₂ h₂ ∙ sym (coefficients-are s₁ h₁))
+        ∙ sym (held-steps s₁ d h₁ spans (s₁ .coefficients))
       where
-        coefficients-are : Holds (grown b₁) (draft b₁) → take (length (draft b₁ .coefficients)) (grown b₁ .coefficients) ≡ draft b₁ .coefficients
-        coefficients-are h = rw (← h .coefficient-count) (h .coefficients)
+        coefficients-are : (s : State) → Holds s d → take (length (d .coefficients)) (s .coefficients) ≡ d .coefficients
+        coefficients-are s h = rw (← h .coefficient-count) (h .coefficients)
 
-        coefficients-too : take (length (draft b₁ .coefficients)) (grown b₂ .coefficients) ≡ draft b₁ .coefficients
-        coefficients-too = rw (← holds-too .coefficient-count) (holds-too .coefficients)
+    pub same-traced : tracedSteps (s₂ .plan) (s₂ .indices) (s₂ .steps) ≡ tracedSteps (s₁ .plan) (s₁ .indices) (s₁ .steps)
+    same-traced = held-steps s₂ d h₂ spans [] ∙ sym (held-steps s₁ d h₁ spans [])
 
-    pub same-traced : tracedSteps (grown b₂ .plan) (grown b₂ .indices) (grown b₂ .steps) ≡ tracedSteps (grown b₁ .plan) (grown b₁ .indices) (grown b₁ .steps)
-    same-traced = held-steps (grown b₂) (draft b₁) holds-too spans [] ∙ sym (held-steps (grown b₁) (draft b₁) (holds b₁) spans [])
-
--- ---- its nodes: at rest where no ramp was given
-
-snoc-rest : (ns : List Node) (new : Node) → AtRest ns → new .left ≡ 0 → AtRest (ns ++ (new ∷ []))
-snoc-rest [] new r e zero = e
-snoc-rest [] new r e (suc n) = refl
-snoc-rest (x ∷ ns) new r e zero = r zero
-snoc-rest (x ∷ ns) new r e (suc n) = snoc-rest ns new (λ i. r (suc i)) e n
-
-drafted-rest : (cs : List Call) (d : Draft) → AtRest (d .nodes) → NoRampBuilt cs → AtRest (drafted d cs .nodes)
-drafted-rest [] d r f = r
-drafted-rest (buffers n ∷ cs) d r f = drafted-rest cs (given d (buffers n)) r f
-drafted-rest (coefficients xs ∷ cs) d r f = drafted-rest cs (given d (coefficients xs)) r f
-drafted-rest (node id values ramp ∷ cs) d r f =
-    drafted-rest cs (given d (node id values ramp)) (snoc-rest (d .nodes) (newNode id values ramp) r (left-new id values ramp ∙ f .0)) (f .1)
-drafted-rest (step w ∷ cs) d r f = drafted-rest cs (given d (step w)) r f
-
-pub built-rest : (b : Build) → NoRampBuilt (acceptedCalls b) → AtRest (nodes (grown b .plan .nodes) (grown b .floats) (grown b .words))
-built-rest b f = rw (holds b .nodes) (drafted-rest (acceptedCalls b) noDraft (λ n. refl) f)
+    -- whatever stands in the buffers
+    pub one-draft : (buffers₁ buffers₂ : List Float) → OneDraft (planOf s₁) (planOf s₂) (areasOf s₁ buffers₁) (areasOf s₂ buffers₂)
+    one-draft buffers₁ buffers₂ = record { plan = record { steps = same-steps; buffers = h₂ .buffers ∙ sym (h₁ .buffers) }; lasting = record { nodes = same-nodes } }

@@ -15,16 +15,20 @@ pub mod Moments
 pub mod Settings
 -- the accepted runs of a list
 pub mod Runs
--- two lists of two plans that are the same
+-- two lists of two plans with the same steps, where no node ramps
 pub mod Pairs
 -- two lists for blocks as long, run by run
 pub mod Lockstep
--- two builds of the same calls
+-- what the clean answer says
+pub mod CleanPlans
+-- two lists of two plans that hold one draft
+pub mod OneDraft
+-- two states of the builder that hold one draft
 pub mod Drafts
 -- what the check, the clean answer and the trace say of both
 pub mod Answers
--- what the clean answer says
-pub mod CleanPlans
+-- builds, one way to a draft
+pub mod Builds
 -- demand 3
 pub mod TwoLists
 -- the recorder's corollary

@@ -5,7 +5,6 @@ use mathlib.Core.Logic.{inl, inr}
 use mathlib.Core.Bool.{Bool, true}
 use mathlib.Core.List.{List, [], _∷_, _++_}
 use Prim.Native.Nat.{ℕ, _+_, _*_, _≤_, _<_}
-use native.Mathlib.Decide.{ℕ-discrete}
 use native.Mathlib.Omega.{arith}
 use lib.ListN.{length, getD, take, drop}
 use lib.Seq.{ext-getD, length-take-le, drop-at}
@@ -19,15 +18,15 @@ use Rattle.trace.specs.Sources.{noSources, behind}
 use Rattle.trace.specs.Clean.{noneWritten, cleanFrom}
 use Rattle.input.specs.Input.{lookup}
 use Rattle.run.specs.Run.{outputChannels, processed}
-use Rattle.run.specs.Calls.{Fixed, Held, Call, set, run, givenTo, start, answer, after, stepsOfPlan}
-use Rattle.theorem.specs.Journal.{Entry, ran, entry, journal, Setting, total, settingsFrom, written, carried, NoRampSet}
+use Rattle.run.specs.Calls.{Fixed, Held, set, run, givenTo, start, answer, after, stepsOfPlan}
+use Rattle.theorem.specs.Journal.{Entry, ran, entry, Setting, total, settingsFrom, written, carried}
 use Rattle.theorem.specs.Statement.{Channel}
 use Rattle.theorem.proofs.Block.{Within}
-use Rattle.theorem.proofs.Nodes.{AtRest, nodesAfter, nodesSet, set-nodes}
+use Rattle.theorem.proofs.Nodes.{nodesAfter, nodesSet, set-nodes}
 use Rattle.theorem.proofs.Moments.{moment, CarryEqual, carried-heard}
 use Rattle.theorem.proofs.Settings.{by, heads, tails, not-empty, none-earlier}
-use Rattle.theorem.proofs.Runs.{Went, none, then, went, nodesOf, nodes-then, part-length, run-sample, length-written}
-use Rattle.theorem.proofs.Pairs.{SamePlan, below₁, below₂, one-sample, rest-same}
+use Rattle.theorem.proofs.Runs.{Went, none, then, nodesOf, nodes-then, part-length, run-sample}
+use Rattle.theorem.proofs.Pairs.{SamePlan, below₁, below₂, one-sample}
 
 -- what lasts from run to run
 pub record Same (f₁ f₂ : Fixed) (h₁ h₂ : Held) : Type 0 where
@@ -147,29 +146,3 @@ module _ (f₁ f₂ : Fixed) (same : SamePlan f₁ f₂) (clean : cleanFrom none
         let rest = in-step w w₂ (run-lasts h₁ h₂ t d d₂ x x₂ out out₂ a a₂ es₁ es₂ carry) (at₁ + n₁) (at₂ + n₂) (omega arith) (omega arith) e
         (carried-on h₁ h₂ t d d₂ x x₂ out out₂ a a₂ es₁ es₂ carry) in
         rw (block-same h₁ h₂ t d d₂ x x₂ out out₂ a a₂ es₁ es₂ carry, rest) refl
-
--- ---- two lists, for blocks as long or not
-module _ (f₁ f₂ : Fixed) (same : SamePlan f₁ f₂) (clean : cleanFrom noneWritten (stepsOfPlan f₁) ≡ true) (s q : ℕ) (ch : Channel (stepsOfPlan f₁) s q)
-    (L : ℕ → Bool) (within : Within (behind s noSources (stepsOfPlan f₁)) L) (least : 0 < f₁ .plan .block) (h₁ h₂ : Held) (lasting : Same f₁ f₂ h₁ h₂)
-    (cs₁ cs₂ : List Call) where
-  abbrev a : ℕ
-  a = f₁ .plan .block
-
-  abbrev b : ℕ
-  b = f₂ .plan .block
-
-  abbrev es₁ : List Entry
-  es₁ = journal f₁ h₁ cs₁
-
-  abbrev es₂ : List Entry
-  es₂ = journal f₂ h₂ cs₂
-
-  pub written-same : total a es₁ ≡ total b es₂ → settingsFrom a 0 es₁ ≡ settingsFrom b 0 es₂
-      → ((f₁ .plan .block ≡ f₂ .plan .block → ⊥) → AtRest (nodesOf f₁ h₁) × NoRampSet es₁ × NoRampSet es₂)
-      → ((i c : ℕ) → L i ≡ true → CarryEqual a b i c es₁ es₂)
-      → (length (written a q es₁) ≡ total a es₁) × (written a q es₁ ≡ written b q es₂)
-  written-same sum alike slow carry = (length-written f₁ q (below₁ f₁ f₂ same clean s q ch L within) (went f₁ cs₁ h₁), go (ℕ-discrete a b))
-    where
-      go : Dec (f₁ .plan .block ≡ f₂ .plan .block) → written a q es₁ ≡ written b q es₂
-      go (yes p) = in-step f₁ f₂ same clean s q ch L within p least (went f₁ cs₁ h₁) (went f₂ cs₂ h₂) lasting 0 0 refl sum alike carry
-      go (no p) = rest-same f₁ f₂ same clean s q ch L within (went f₁ cs₁ h₁) (went f₂ cs₂ h₂) (lasting .nodes) sum alike (slow p) carry

@@ -43,8 +43,12 @@ channel-inside (x ∷ before) src s after c h =
     let ih = channel-inside before src s after c h in
     omega (arith, channels-more x before, channels-more x (before ++ output src s ∷ after))
 
-pub channel-below : (steps : List Resolved) (s q : ℕ) → Channel steps s q → q < outputChannels steps
-channel-below steps s q ch = rw (ch .place, ch .split) (channel-inside (ch .before) (ch .src) s (ch .after) (ch .c) (ch .inside))
+module _ (steps : List Resolved) (s q : ℕ) (ch : Channel steps s q) where
+  in-span : ch .c < length (ch .src)
+  in-span = omega (arith, ch .inside)
+
+  pub channel-below : q < outputChannels steps
+  channel-below = rw (ch .place, ch .split) (channel-inside (ch .before) (ch .src) s (ch .after) (ch .c) in-span)
 
 -- ---- channel q of slot s; L has every input behind s
 module _ (f₁ f₂ : Fixed) (same : SamePlan f₁ f₂) (clean : cleanFrom noneWritten (stepsOfPlan f₁) ≡ true) (s q : ℕ) (ch : Channel (stepsOfPlan f₁) s q)
@@ -54,6 +58,9 @@ module _ (f₁ f₂ : Fixed) (same : SamePlan f₁ f₂) (clean : cleanFrom none
 
   abbrev b : ℕ
   b = f₂ .plan .block
+
+  abbrev inside : ch .c < length (ch .src)
+  inside = in-span (stepsOfPlan f₁) s q ch
 
   pub below₁ : q < outputChannels (stepsOfPlan f₁)
   below₁ = channel-below (stepsOfPlan f₁) s q ch
@@ -94,7 +101,7 @@ module _ (f₁ f₂ : Fixed) (same : SamePlan f₁ f₂) (clean : cleanFrom none
     node₂ n h =
         sym (getD-nodes (f₂ .plan .nodes) (s₂ .floats) (s₂ .words) n nobody (omega (arith, same-count))) ∙ ap (λ (ns : List Node). getD ns n nobody) (r₂ .nodes-are)
 
-    start : Going count (f₁ .plan .buffers) a (m₁ .offset) b (m₂ .offset) (r₁ .offset) (r₂ .offset) (m₁ .input) (m₂ .input) L inputs-same s (ch .src) (ch .after) (ch .c) (ch .inside) noSources noneWritten steps 0 s₁ s₂
+    start : Going count (f₁ .plan .buffers) a (m₁ .offset) b (m₂ .offset) (r₁ .offset) (r₂ .offset) (m₁ .input) (m₂ .input) L inputs-same s (ch .src) (ch .after) (ch .c) inside noSources noneWritten steps 0 s₁ s₂
     start =
         record {
           nodes = record {
@@ -122,7 +129,7 @@ module _ (f₁ f₂ : Fixed) (same : SamePlan f₁ f₂) (clean : cleanFrom none
     pub one-sample : y₁ ≡ y₂
     one-sample =
         let place : 0 + (outputChannels (ch .before) + ch .c) ≡ q = zero-add (outputChannels (ch .before) + ch .c) ∙ sym (ch .place) in
-        let equal = same-sample count (f₁ .plan .buffers) a (m₁ .offset) b (m₂ .offset) (r₁ .offset) (r₂ .offset) (m₁ .input) (m₂ .input) L inputs-same s (ch .src) (ch .after) (ch .c) (ch .inside)
+        let equal = same-sample count (f₁ .plan .buffers) a (m₁ .offset) b (m₂ .offset) (r₁ .offset) (r₂ .offset) (m₁ .input) (m₂ .input) L inputs-same s (ch .src) (ch .after) (ch .c) inside
         (ch .before) noSources noneWritten 0 s₁ s₂ start in
         r₁ .sample-is
         ∙ ap (λ (xs : List Resolved). sample a (runSteps a (m₁ .input) xs s₁ .output) q (m₁ .offset)) (ch .split)

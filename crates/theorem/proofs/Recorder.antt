@@ -17,8 +17,7 @@ use Rattle.theorem.specs.Statement.{Channel}
 use Rattle.theorem.specs.Traced.{IsClean, listFor}
 use Rattle.theorem.specs.Recorder.{Inputs, block, SameInput, blockAt, Changes}
 use Rattle.theorem.proofs.Moments.{CarryEqual}
-use Rattle.theorem.proofs.Lockstep.{written-same}
-use Rattle.theorem.proofs.CleanPlans.{clean-sound, clean-steps, all-listed}
+use Rattle.theorem.proofs.OneDraft.{Premises, drafts-agree}
 
 module _ (f : Fixed) (h : Held) (out : List Float) where
   abbrev n : ℕ
@@ -43,10 +42,18 @@ module _ (f : Fixed) (h : Held) (out : List Float) where
         let y = change .other in
         let es = one-entry x (change .one-accepted) in
         let fs = one-entry y (change .other-accepted) in
-        let equal = written-same f f (record { steps = refl; buffers = refl }) (clean-steps f (h .words) clean) s q ch (has (listFor f s)) (all-listed f (h .words) clean s)
-        (clean-sound f (h .words) clean .block-least) h h (record { nodes = refl }) (run (x .directory) (x .samples) out ∷ []) (run (y .directory) (y .samples) out ∷ [])
-        (rw (es, fs) refl) (rw (es, fs) refl) (λ differ. absurd (differ refl))
-        (rw (es, fs) (λ j c p. carried-same x y j c (change .same-but j c (λ z. true≢false (sym p ∙ ap (has (listFor f s)) z ∙ e))))) in
+        let runs : Premises f f h h (run (x .directory) (x .samples) out ∷ []) (run (y .directory) (y .samples) out ∷ []) n n =
+        record {
+          first-block = refl;
+          second-block = refl;
+          one-draft = record { plan = record { steps = refl; buffers = refl }; lasting = record { nodes = refl } };
+          clean = clean;
+          same-total = rw (es, fs) refl;
+          alike = rw (es, fs) refl;
+          no-ramps = λ differ. absurd (differ refl);
+        } in
+        let equal = drafts-agree f f h h (run (x .directory) (x .samples) out ∷ []) (run (y .directory) (y .samples) out ∷ []) n n runs s
+        (rw (es, fs) (λ j c p. carried-same x y j c (change .same-but j c (λ z. true≢false (sym p ∙ ap (has (listFor f s)) z ∙ e))))) q ch in
         let parts = rw (es, fs) at (equal .1) in
         sym (append-nil (blockAt f h out x q)) ∙ parts ∙ append-nil (blockAt f h out y q)
 
