@@ -70,3 +70,12 @@ slotNamed (matrix n src dst) = 0
 slotNamed (clear dst) = 0
 slotNamed (send n src dst weights) = 0
 slotNamed (output src slot) = suc slot
+
+-- the buffers of its dst
+abbrev pub dstOf : Resolved → List ℕ
+dstOf (patch i c d) = d ∷ []
+dstOf (gain n src dst) = dst
+dstOf (matrix n src dst) = dst
+dstOf (clear dst) = dst
+dstOf (send n src dst weights) = dst
+dstOf (output src slot) = []

@@ -1,6 +1,6 @@
--- How many samples a step writes. Assumes nothing.
+-- How many samples a step writes, and how many channels steps append. Assumes nothing.
 use mathlib.Core.Path.{_≡_, _∙_, ap, refl}
-use mathlib.Core.List.{List}
+use mathlib.Core.List.{List, _∷_}
 use Prim.Native.Nat.{ℕ, _+_, _*_, _≤_}
 use native.Mathlib.Nat.{zero-mul}
 use native.Mathlib.Omega.{arith}
@@ -13,10 +13,15 @@ use Rattle.plan.specs.Resolved.{resolved, Resolved, patch, gain, matrix, clear,
 use Rattle.plan.specs.Sound.{Placed}
 use Rattle.plan.specs.Loops.{channels}
 use Rattle.plan.proofs.Named.{channels-named}
-use Rattle.run.specs.Run.{State, stepped}
+use Rattle.run.specs.Run.{State, stepped, outputChannels}
 
 pub output-room : {x : Step} (s : Span) (o block w n : ℕ) → x ≡ Output s o → w + channels x * block ≤ n → w + s .len * block ≤ n
 output-room s o block w n e h = rw e at h
+
+-- the channels of a list of steps, step by step
+pub channels-more : (x : Resolved) (xs : List Resolved) → outputChannels (x ∷ xs) ≡ channelsOut x + outputChannels xs
+unfolding outputChannels
+channels-more x xs = refl
 
 -- what a step adds to the samples written
 pub wrote-out : (block : ℕ) (input : ℕ → ℕ → List Float) (x : Resolved) (s : State) → stepped block input x s .wrote ≡ s .wrote + channelsOut x * block

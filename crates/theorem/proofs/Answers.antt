@@ -28,7 +28,7 @@ use Rattle.plan.specs.Limits.{badBlock}
 use Rattle.plan.specs.Areas.{shortLists}
 use Rattle.plan.specs.Words.{readAt}
 use Rattle.plan.specs.Resolved.{Resolved}
-use Rattle.plan.specs.Check.{outside, stepTests, stepsTests, planTests, checked}
+use Rattle.plan.specs.Check.{outsideBy, outside, stepTests, stepsTests, planTests, checked}
 use Rattle.plan.proofs.Plans.{lists-none}
 use Rattle.plan.proofs.Exact.{accepted-sound}
 use Rattle.plan.proofs.Front.{check-front}
@@ -48,7 +48,7 @@ withBlock p n = record { block = n; buffers = p .buffers; indices = p .indices; 
 
 module _ (p : Plan) (n : ℕ) where
   outside-block : (s : Step) → outside (withBlock p n) s ≡ outside p s
-  unfolding outside
+  unfolding outsideBy
   outside-block (Patch i c d) = refl
   outside-block (Gain m s d) = refl
   outside-block (Matrix m s d) = refl

@@ -20,13 +20,14 @@ use Rattle.mix.specs.Samples.{sample, put}
 use Rattle.mix.specs.Mix.{gained, rows, sends, cleared, patched}
 use Rattle.mix.proofs.Laws.{not-used, gained-other, rows-other, sends-other, cleared-other, appended-at, appended-before}
 use Rattle.mix.proofs.Put.{put-other}
-use Rattle.plan.specs.Resolved.{Resolved, patch, gain, matrix, clear, send, output}
+use Rattle.plan.specs.Resolved.{Resolved, patch, gain, matrix, clear, send, output, channelsOut}
 use Rattle.trace.specs.Sources.{union, spread, joins, behind}
 use Rattle.trace.specs.Clean.{written, all, cleanStep, cleanFrom}
 use Rattle.run.specs.Run.{State, stepped, runSteps, outputChannels}
 use Rattle.run.proofs.States.{step-lengths}
+use Rattle.run.proofs.Outputs.{channels-more, wrote-out}
 use Rattle.theorem.proofs.Agree.{All, all-at, Agree, Hold, Paired, gained-paired, rows-paired, sends-paired, cleared-paired, patch-paired}
-use Rattle.theorem.proofs.Steps.{InPlan, width, channels-more, wrote-step, none-of, SameNodes, even, nodes-step, hold-step}
+use Rattle.theorem.proofs.Steps.{InPlan, none-of, SameNodes, even, nodes-step, hold-step}
 
 -- of each step
 abbrev pub Every : (Resolved → Type 0) → List Resolved → Type 0
@@ -48,7 +49,7 @@ module _ (block : ℕ) (input : ℕ → ℕ → List Float) where
   unfolding runSteps
   steps-before [] s i h = refl
   steps-before (x ∷ xs) s i h =
-      steps-before xs (stepped block input x s) i (omega (arith, wrote-step block input x s)) ∙ step-before x s i h
+      steps-before xs (stepped block input x s) i (omega (arith, wrote-out block input x s)) ∙ step-before x s i h
 
   -- sample k of channel c of an Output, in the output area after the run; q blocks were written before it
   pub output-sample : (src : List ℕ) (slot : ℕ) (after : List Resolved) (s : State) (q c k : ℕ) → s .wrote ≡ q * block → c < length src → k < block
@@ -140,31 +141,31 @@ module _ (count m b₁ k₁ b₂ k₂ : ℕ) (h₁ : k₁ < b₁) (h₂ : k₂ <
     step-listed : (x : Resolved) → InPlan count m x → cleanStep w x ≡ true
         → Listed (spread sources x) (written w x) (stepped b₁ input₁ x s₁ .buffers) (stepped b₂ input₂ x s₂ .buffers)
     unfolding stepped cleanStep spread written union all
-    step-listed (patch j c d) o e b v u = patched-same sources w (s₁ .buffers) (s₂ .buffers) inv j c d o hold b v u
+    step-listed (patch j c d) o e b v u = patched-same sources w (s₁ .buffers) (s₂ .buffers) inv j c d (o .1 .0) hold b v u
     step-listed (gain n src dst) o e b v u =
         let c = and-both (leb (length dst) (length src)) (all w src) e in
-        subst (λ (node : Node). Same (gained b₁ (gains₁ n) 0 src dst (s₁ .buffers)) (gained b₂ (λ i. gainOf node i) 0 src dst (s₂ .buffers)) b) (t .same n (o .0))
+        subst (λ (node : Node). Same (gained b₁ (gains₁ n) 0 src dst (s₁ .buffers)) (gained b₂ (λ i. gainOf node i) 0 src dst (s₂ .buffers)) b) (t .same n (o .0 .0))
         (anew sources w (s₁ .buffers) (s₂ .buffers) inv src dst (gained b₁ (gains₁ n) 0 src dst (s₁ .buffers)) (gained b₂ (gains₁ n) 0 src dst (s₂ .buffers))
-        (λ a. gained-paired b₁ k₁ b₂ k₂ h₁ h₂ m (gains₁ n) (even count m b₁ k₁ b₂ k₂ h₁ h₂ (s₁ .floats) (s₁ .words) (t .steady) n (o .0)) 0 src dst (s₁ .buffers) (s₂ .buffers) hold (o .1) a
+        (λ a. gained-paired b₁ k₁ b₂ k₂ h₁ h₂ m (gains₁ n) (even count m b₁ k₁ b₂ k₂ h₁ h₂ (s₁ .floats) (s₁ .words) (t .steady) n (o .0 .0)) 0 src dst (s₁ .buffers) (s₂ .buffers) hold (o .1) a
         (leb-true (length dst) (length src) (c .0)))
         (λ b p. let q = not-used dst src (none-of dst b p) in (gained-other b₁ b k₁ h₁ _ 0 src dst (s₁ .buffers) q, gained-other b₂ b k₂ h₂ _ 0 src dst (s₂ .buffers) q))
         (c .1) b v u)
     step-listed (matrix n src dst) o e b v u =
-        subst (λ (node : Node). Same (rows b₁ (gains₁ n) 0 src dst (s₁ .buffers)) (rows b₂ (λ i. gainOf node i) 0 src dst (s₂ .buffers)) b) (t .same n (o .0))
+        subst (λ (node : Node). Same (rows b₁ (gains₁ n) 0 src dst (s₁ .buffers)) (rows b₂ (λ i. gainOf node i) 0 src dst (s₂ .buffers)) b) (t .same n (o .0 .0))
         (anew sources w (s₁ .buffers) (s₂ .buffers) inv src dst (rows b₁ (gains₁ n) 0 src dst (s₁ .buffers)) (rows b₂ (gains₁ n) 0 src dst (s₂ .buffers))
-        (λ a. rows-paired b₁ k₁ b₂ k₂ h₁ h₂ m (gains₁ n) (even count m b₁ k₁ b₂ k₂ h₁ h₂ (s₁ .floats) (s₁ .words) (t .steady) n (o .0)) 0 src dst (s₁ .buffers) (s₂ .buffers) hold (o .1) a)
+        (λ a. rows-paired b₁ k₁ b₂ k₂ h₁ h₂ m (gains₁ n) (even count m b₁ k₁ b₂ k₂ h₁ h₂ (s₁ .floats) (s₁ .words) (t .steady) n (o .0 .0)) 0 src dst (s₁ .buffers) (s₂ .buffers) hold (o .1) a)
         (λ b p. let q = none-of dst b p in (rows-other b₁ b k₁ h₁ _ 0 src dst (s₁ .buffers) q, rows-other b₂ b k₂ h₂ _ 0 src dst (s₂ .buffers) q))
         e b v u)
     step-listed (clear dst) o e b v u =
         anew sources w (s₁ .buffers) (s₂ .buffers) inv [] dst (cleared b₁ dst (s₁ .buffers)) (cleared b₂ dst (s₂ .buffers))
-        (λ a. cleared-paired b₁ k₁ b₂ k₂ h₁ h₂ m dst (s₁ .buffers) (s₂ .buffers) hold o)
+        (λ a. cleared-paired b₁ k₁ b₂ k₂ h₁ h₂ m dst (s₁ .buffers) (s₂ .buffers) hold (o .1))
         (λ b p. let q = none-of dst b p in (cleared-other b₁ b k₁ h₁ dst (s₁ .buffers) q, cleared-other b₂ b k₂ h₂ dst (s₂ .buffers) q))
         refl b v u
     step-listed (send n src dst weights) o e b v u =
         let c = and-both (all w src) (all w dst) e in
-        subst (λ (node : Node). Same (sends b₁ (gains₁ n 0) weights 0 src dst (s₁ .buffers)) (sends b₂ (gainOf node 0) weights 0 src dst (s₂ .buffers)) b) (t .same n (o .0))
+        subst (λ (node : Node). Same (sends b₁ (gains₁ n 0) weights 0 src dst (s₁ .buffers)) (sends b₂ (gainOf node 0) weights 0 src dst (s₂ .buffers)) b) (t .same n (o .0 .0))
         (more sources w (s₁ .buffers) (s₂ .buffers) inv src dst (sends b₁ (gains₁ n 0) weights 0 src dst (s₁ .buffers)) (sends b₂ (gains₁ n 0) weights 0 src dst (s₂ .buffers))
-        (λ a. sends-paired b₁ k₁ b₂ k₂ h₁ h₂ m (gains₁ n 0) (even count m b₁ k₁ b₂ k₂ h₁ h₂ (s₁ .floats) (s₁ .words) (t .steady) n (o .0) 0) weights 0 src dst (s₁ .buffers) (s₂ .buffers) hold (o .1) a)
+        (λ a. sends-paired b₁ k₁ b₂ k₂ h₁ h₂ m (gains₁ n 0) (even count m b₁ k₁ b₂ k₂ h₁ h₂ (s₁ .floats) (s₁ .words) (t .steady) n (o .0 .0) 0) weights 0 src dst (s₁ .buffers) (s₂ .buffers) hold (o .1) a)
         (λ b p. let q = none-of dst b p in (sends-other b₁ b k₁ h₁ _ weights 0 src dst (s₁ .buffers) q, sends-other b₂ b k₂ h₂ _ weights 0 src dst (s₂ .buffers) q))
         (c .0) b v u)
     step-listed (output src slot) o e b v u = inv b v u
@@ -186,11 +187,11 @@ module _ (count m b₁ k₁ b₂ k₂ : ℕ) (h₁ : k₁ < b₁) (h₂ : k₂ <
 
     -- one step on
     going-on : (sources : ℕ → ℕ → Bool) (w : ℕ → Bool) (x : Resolved) (xs : List Resolved) (q : ℕ) (s₁ s₂ : State) → Going sources w (x ∷ xs) q s₁ s₂
-        → Going (spread sources x) (written w x) xs (q + width x) (stepped b₁ input₁ x s₁) (stepped b₂ input₂ x s₂)
+        → Going (spread sources x) (written w x) xs (q + channelsOut x) (stepped b₁ input₁ x s₁) (stepped b₂ input₂ x s₂)
     unfolding cleanFrom behind
     going-on sources w x xs q s₁ s₂ g =
         let e = and-both (cleanStep w x) (cleanFrom (written w x) xs) (g .clean) in
-        let n : q + width x + outputChannels xs ≡ q + outputChannels (x ∷ xs) = rw (channels-more x xs) (omega arith) in
+        let n : q + channelsOut x + outputChannels xs ≡ q + outputChannels (x ∷ xs) = rw (channels-more x xs) (omega arith) in
         record {
           nodes = nodes-step count m b₁ k₁ b₂ k₂ h₁ h₂ input₁ input₂ s₁ s₂ (g .nodes) x (g .in-plan .0);
           hold = hold-step count m b₁ k₁ b₂ k₂ h₁ h₂ input₁ input₂ s₁ s₂ (g .nodes) x (g .hold);
@@ -198,8 +199,8 @@ module _ (count m b₁ k₁ b₂ k₂ : ℕ) (h₁ : k₁ < b₁) (h₂ : k₂ <
           clean = e .1;
           within = λ i p. g .within i (or-right (joins s sources x i) (behind s (spread sources x) xs i) p);
           in-plan = g .in-plan .1;
-          wrote₁ = wrote-step b₁ input₁ x s₁ ∙ ap (λ (k : ℕ). k + width x * b₁) (g .wrote₁) ∙ sym (add-mul q (width x) b₁);
-          wrote₂ = wrote-step b₂ input₂ x s₂ ∙ ap (λ (k : ℕ). k + width x * b₂) (g .wrote₂) ∙ sym (add-mul q (width x) b₂);
+          wrote₁ = wrote-out b₁ input₁ x s₁ ∙ ap (λ (k : ℕ). k + channelsOut x * b₁) (g .wrote₁) ∙ sym (add-mul q (channelsOut x) b₁);
+          wrote₂ = wrote-out b₂ input₂ x s₂ ∙ ap (λ (k : ℕ). k + channelsOut x * b₂) (g .wrote₂) ∙ sym (add-mul q (channelsOut x) b₂);
           room₁ = rw (step-lengths b₁ input₁ x s₁ .output, n) (g .room₁);
           room₂ = rw (step-lengths b₂ input₂ x s₂ .output, n) (g .room₂);
         }
@@ -225,9 +226,9 @@ module _ (count m b₁ k₁ b₂ k₂ : ℕ) (h₁ : k₁ < b₁) (h₂ : k₂ <
         ∙ all-at (Same (s₁ .buffers) (s₂ .buffers)) src c inside (own-same sources w q s₁ s₂ g)
         ∙ sym (output-sample b₂ input₂ src s after s₂ q c k₂ (g .wrote₂) inside h₂ r₂))
     same-sample (x ∷ before) sources w q s₁ s₂ g =
-        let n : q + width x + (outputChannels before + c) ≡ q + (outputChannels (x ∷ before) + c) = rw (channels-more x before) (omega arith) in
+        let n : q + channelsOut x + (outputChannels before + c) ≡ q + (outputChannels (x ∷ before) + c) = rw (channels-more x before) (omega arith) in
         let out₁ = runSteps b₁ input₁ (before ++ output src s ∷ after) (stepped b₁ input₁ x s₁) .output in
         let out₂ = runSteps b₂ input₂ (before ++ output src s ∷ after) (stepped b₂ input₂ x s₂) .output in
         subst (λ (p : ℕ). sample b₁ out₁ p k₁ ≡ sample b₂ out₂ p k₂) n
-        (same-sample before (spread sources x) (written w x) (q + width x) (stepped b₁ input₁ x s₁) (stepped b₂ input₂ x s₂)
+        (same-sample before (spread sources x) (written w x) (q + channelsOut x) (stepped b₁ input₁ x s₁) (stepped b₂ input₂ x s₂)
         (going-on sources w x (before ++ output src s ∷ after) q s₁ s₂ g))

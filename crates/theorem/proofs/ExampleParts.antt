@@ -23,7 +23,7 @@ use Rattle.mix.specs.Samples.{sampled}
 use Rattle.mix.specs.Mix.{added, weighted, sent, columns, weighs}
 use Rattle.plan.specs.Words.{patchMap, gainMap, matrixMap, clearMap, sendMap, outputMap, stepOf, decoded, decodedFrom}
 use Rattle.plan.specs.Areas.{Areas, areas}
-use Rattle.plan.specs.Check.{idAmong, idTwice, outside, shares, stepsTests, checked}
+use Rattle.plan.specs.Check.{idAmong, idTwice, outsideBy, shares, stepsTests, checked}
 use Rattle.builder.specs.Calls.{newAnswer, buffersIndices, coefficientsArea, nodeFloatsArea, nodeWordsArea, stepArea, finishArea}
 use Rattle.builder.specs.Built.{Call, step}
 use Rattle.input.specs.Input.{entryWord, entryFor, entries}
@@ -39,7 +39,7 @@ use Rattle.theorem.specs.Statement.{Lists, a, b, firstJournal, secondJou
 
 -- What a computation of builds, traces and journals goes through: `unfolding definitions` opens all of these and what they open.
 unfoldable pub definitions : Unit {0}
-unfolding ones onesIn add sub mul div eq ofInt ofBits newNode setNode gainOf factor finishBlock nodeAt floatsOf wordsOf badNode someBad stepOf decoded decodedFrom someFrom idAmong idTwice outside has meet shares stepsTests checked sampled added weighted sent columns weighs newAnswer buffersIndices coefficientsArea nodeFloatsArea nodeWordsArea stepArea finishArea processed nodeOf settingFloats settingWords sift sourceList cleanAnswer
+unfolding ones onesIn add sub mul div eq ofInt ofBits newNode setNode gainOf factor finishBlock nodeAt floatsOf wordsOf badNode someBad stepOf decoded decodedFrom someFrom idAmong idTwice outsideBy has meet shares stepsTests checked sampled added weighted sent columns weighs newAnswer buffersIndices coefficientsArea nodeFloatsArea nodeWordsArea stepArea finishArea processed nodeOf settingFloats settingWords sift sourceList cleanAnswer
 definitions = tt
 
 -- ---- samples

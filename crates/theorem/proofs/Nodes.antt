@@ -9,18 +9,19 @@ use lib.Dec.{eqb}
 use lib.ListN.{length, getD, set}
 use lib.Seq.{set-getD, getD-set-same, getD-set-other, set-out}
 use lib.Ieee.{Float}
+use Rattle.lists.specs.Entries.{AllBelow}
 use Rattle.refusal.specs.declared.Answer.the-variants.{Accepted}
 use Rattle.node.specs.declared.Node.{Node}
 use Rattle.node.specs.Nodes.{zeroNode, setNode, finishBlock}
 use Rattle.node.specs.Areas.{Room, nodeAt, nodes}
 use Rattle.node.proofs.Kept.{full-load, full-set, full-finish}
 use Rattle.node.proofs.Left.{finish-rest, left-set}
-use Rattle.node.proofs.Areas.{length-nodes, getD-nodes, nodes-stored}
-use Rattle.plan.specs.Resolved.{Resolved, patch, gain, matrix, clear, send, output}
+use Rattle.node.proofs.Areas.{length-nodes, getD-nodes, nodes-stored, length-stored-floats, length-stored-words}
+use Rattle.plan.specs.Resolved.{Resolved, nodeNamed}
 use Rattle.setting.specs.Setting.{nodeOf, settingAnswer, settingFloats, settingWords}
 use Rattle.setting.proofs.Setting.{node-named, settable, floats-accepted, words-accepted}
 use Rattle.run.specs.Run.{State, finished, stepped, runSteps}
-use Rattle.run.proofs.States.{step-lengths}
+use Rattle.run.proofs.States.{step-lengths, ends, step-nodes}
 use Rattle.theorem.proofs.Steps.{InPlan}
 use Rattle.theorem.proofs.Block.{Every}
 
@@ -52,27 +53,25 @@ replaced-rest ns m new r e n = go (ℕ-discrete n m)
 abbrev pub ended : ℕ → ℕ → List Node → List Node
 ended block n ns = set ns n (finishBlock (nth ns n) block)
 
+abbrev endedAll : ℕ → List ℕ → List Node → List Node
+endedAll block [] ns = ns
+endedAll block (n ∷ us) ns = endedAll block us (ended block n ns)
+
 unfoldable pub nodesAfter : ℕ → List Resolved → List Node → List Node
 nodesAfter block [] ns = ns
-nodesAfter block (patch i c d ∷ xs) ns = nodesAfter block xs ns
-nodesAfter block (gain n src dst ∷ xs) ns = nodesAfter block xs (ended block n ns)
-nodesAfter block (matrix n src dst ∷ xs) ns = nodesAfter block xs (ended block n ns)
-nodesAfter block (clear dst ∷ xs) ns = nodesAfter block xs ns
-nodesAfter block (send n src dst weights ∷ xs) ns = nodesAfter block xs (ended block n ns)
-nodesAfter block (output src slot ∷ xs) ns = nodesAfter block xs ns
+nodesAfter block (x ∷ xs) ns = nodesAfter block xs (endedAll block (nodeNamed x) ns)
 
 ended-rest : (block n : ℕ) (ns : List Node) → AtRest ns → ended block n ns ≡ ns
 ended-rest block n ns r = ap (set ns n) (finish-rest (nth ns n) block (r n)) ∙ set-getD ns n nobody
 
+all-rest : (block : ℕ) (us : List ℕ) (ns : List Node) → AtRest ns → endedAll block us ns ≡ ns
+all-rest block [] ns r = refl
+all-rest block (n ∷ us) ns r = ap (endedAll block us) (ended-rest block n ns r) ∙ all-rest block us ns r
+
 pub nodes-rest : (block : ℕ) (xs : List Resolved) (ns : List Node) → AtRest ns → nodesAfter block xs ns ≡ ns
 unfolding nodesAfter
 nodes-rest block [] ns r = refl
-nodes-rest block (patch i c d ∷ xs) ns r = nodes-rest block xs ns r
-nodes-rest block (gain n src dst ∷ xs) ns r = rw (ended-rest block n ns r) (nodes-rest block xs ns r)
-nodes-rest block (matrix n src dst ∷ xs) ns r = rw (ended-rest block n ns r) (nodes-rest block xs ns r)
-nodes-rest block (clear dst ∷ xs) ns r = nodes-rest block xs ns r
-nodes-rest block (send n src dst weights ∷ xs) ns r = rw (ended-rest block n ns r) (nodes-rest block xs ns r)
-nodes-rest block (output src slot ∷ xs) ns r = nodes-rest block xs ns r
+nodes-rest block (x ∷ xs) ns r = ap (nodesAfter block xs) (all-rest block (nodeNamed x) ns r) ∙ nodes-rest block xs ns r
 
 module _ (count m block : ℕ) (input : ℕ → ℕ → List Float) where
   -- the list that a state holds
@@ -85,15 +84,13 @@ module _ (count m block : ℕ) (input : ℕ → ℕ → List Float) where
       nodes-stored count (s .floats) (s .words) n (finishBlock node block) (full-finish node block (full-load (s .floats) (s .words) n (omega (arith, room .0)))) h room
       ∙ ap (λ (x : Node). set (listOf s) n (finishBlock x block)) (sym (getD-nodes count (s .floats) (s .words) n nobody h))
 
-  step-nodes : (x : Resolved) (xs : List Resolved) (s : State) → InPlan count m x → Room count (s .floats) (s .words)
-      → nodesAfter block xs (listOf (stepped block input x s)) ≡ nodesAfter block (x ∷ xs) (listOf s)
-  unfolding stepped nodesAfter
-  step-nodes (patch i c d) xs s o room = refl
-  step-nodes (gain n src dst) xs s o room = ap (nodesAfter block xs) (end-node n s room (o .0))
-  step-nodes (matrix n src dst) xs s o room = ap (nodesAfter block xs) (end-node n s room (o .0))
-  step-nodes (clear dst) xs s o room = refl
-  step-nodes (send n src dst weights) xs s o room = ap (nodesAfter block xs) (end-node n s room (o .0))
-  step-nodes (output src slot) xs s o room = refl
+  ends-nodes : (us : List ℕ) (s : State) → AllBelow count us → Room count (s .floats) (s .words) → listOf (ends block us s) ≡ endedAll block us (listOf s)
+  ends-nodes [] s o room = refl
+  ends-nodes (n ∷ us) s o room =
+      let node = finishBlock (nodeAt (s .floats) (s .words) n) block in
+      ends-nodes us (finished block n s) (o .1)
+      (rw (length-stored-floats (s .floats) n node) (room .0), rw (length-stored-words (s .words) n node) (room .1))
+      ∙ ap (endedAll block us) (end-node n s room (o .0))
 
   pub run-nodes : (xs : List Resolved) (s : State) → Every (InPlan count m) xs → Room count (s .floats) (s .words)
       → listOf (runSteps block input xs s) ≡ nodesAfter block xs (listOf s)
@@ -101,7 +98,10 @@ module _ (count m block : ℕ) (input : ℕ → ℕ → List Float) where
   run-nodes [] s o room = refl
   run-nodes (x ∷ xs) s o room =
       let l = step-lengths block input x s in
-      run-nodes xs (stepped block input x s) (o .1) (rw (l .floats) (room .0), rw (l .words) (room .1)) ∙ step-nodes x xs s (o .0) room
+      let e = step-nodes block input x s in
+      let same : listOf (stepped block input x s) ≡ listOf (ends block (nodeNamed x) s) = cc (e .floats, e .words) in
+      run-nodes xs (stepped block input x s) (o .1) (rw (l .floats) (room .0), rw (l .words) (room .1))
+      ∙ ap (nodesAfter block xs) (same ∙ ends-nodes (nodeNamed x) s (o .0 .0) room)
 
 -- ---- a setting
 

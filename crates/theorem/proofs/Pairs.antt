@@ -20,9 +20,10 @@ use Rattle.trace.specs.Sources.{noSources, behind}
 use Rattle.trace.specs.Clean.{noneWritten, cleanFrom}
 use Rattle.run.specs.Run.{State, runSteps, outputChannels}
 use Rattle.run.specs.Calls.{Fixed, Held, stepsOfPlan}
+use Rattle.run.proofs.Outputs.{channels-more}
 use Rattle.theorem.specs.Journal.{Entry, total, settingsFrom, written, NoRampSet}
 use Rattle.theorem.specs.Statement.{Channel}
-use Rattle.theorem.proofs.Steps.{InPlan, channels-more}
+use Rattle.theorem.proofs.Steps.{InPlan}
 use Rattle.theorem.proofs.Block.{Every, Within, Going, same-sample}
 use Rattle.theorem.proofs.Nodes.{nobody, AtRest}
 use Rattle.theorem.proofs.Moments.{Moment, momentAt, CarryEqual, carried-heard}

@@ -27,9 +27,10 @@ use Rattle.plan.specs.declared.Step.the-variants.{Patch, Gain, Matrix, Clear, S
 use Rattle.plan.specs.Areas.{shortAreas}
 use Rattle.plan.specs.Check.{named}
 use Rattle.plan.specs.Resolved.{Resolved, resolved}
-use Rattle.plan.specs.Sound.{Within, Inside, IndexList, Each, stepsOf}
-use Rattle.plan.proofs.Accepted.{span-length, span-below}
+use Rattle.plan.specs.Sound.{Each, stepsOf, Names, Placed}
+use Rattle.plan.proofs.Accepted.{all-placed}
 use Rattle.plan.proofs.Exact.{accepted-sound}
+use Rattle.plan.proofs.Spans.{names-length, names-below}
 use Rattle.input.specs.Input.{lookup}
 use Rattle.run.specs.Run.{Given, State, runSteps, outputChannels, processed}
 use Rattle.run.specs.Calls.{Fixed, Held, held, Call, set, run, givenTo, start, answer, after, stepsOfPlan}
@@ -50,18 +51,21 @@ all-below : (m : ℕ) (xs : List ℕ) → ((i : ℕ) → i < length xs → getD 
 all-below m [] h = tt
 all-below m (x ∷ xs) h = (h 0 (omega arith), all-below m xs (λ i l. h (suc i) (omega arith)))
 
-module _ (p : Plan) (indices : List ℕ) (coefficients : List Float) (l : IndexList p indices) where
-  span-all : (s : Span) → Within (p .indices) s → All (λ d. d < p .buffers) (named indices s)
-  span-all s h = all-below (p .buffers) (named indices s) (λ i k. span-below p indices l s h i (rw (span-length p indices l s h) at k))
+module _ (p : Plan) (indices : List ℕ) (coefficients : List Float) where
+  span-all : (s : Span) → Names p indices s → All (λ d. d < p .buffers) (named indices s)
+  span-all s h = all-below (p .buffers) (named indices s) (λ i k. names-below p indices s h i (rw (names-length p indices s h) at k))
 
-  all-in-plan : (ss : List Step) → Each (Inside p) ss → Every (InPlan (p .nodes) (p .buffers)) (map (resolved indices coefficients) ss)
+  in-plan : (x : Step) → Placed p indices x → InPlan (p .nodes) (p .buffers) (resolved p indices coefficients x)
+  in-plan (Patch i c d) o = (tt, (o .1, tt))
+  in-plan (Gain n s d) o = ((o .0, tt), span-all d (o .2))
+  in-plan (Matrix n s d) o = ((o .0, tt), span-all d (o .2))
+  in-plan (Clear d) o = (tt, span-all d o)
+  in-plan (Send n s d c) o = ((o .0, tt), span-all d (o .2))
+  in-plan (Output s o′) o = (tt, tt)
+
+  all-in-plan : (ss : List Step) → Each (Placed p indices) ss → Every (InPlan (p .nodes) (p .buffers)) (map (resolved p indices coefficients) ss)
   all-in-plan [] o = tt
-  all-in-plan (Patch i c d ∷ ss) o = (o .0 .1, all-in-plan ss (o .1))
-  all-in-plan (Gain n s d ∷ ss) o = ((o .0 .0, span-all d (o .0 .2)), all-in-plan ss (o .1))
-  all-in-plan (Matrix n s d ∷ ss) o = ((o .0 .0, span-all d (o .0 .2)), all-in-plan ss (o .1))
-  all-in-plan (Clear d ∷ ss) o = (span-all d (o .0), all-in-plan ss (o .1))
-  all-in-plan (Send n s d c ∷ ss) o = ((o .0 .0, span-all d (o .0 .2)), all-in-plan ss (o .1))
-  all-in-plan (Output s o′ ∷ ss) o = (tt, all-in-plan ss (o .1))
+  all-in-plan (x ∷ ss) o = (in-plan x (o .0), all-in-plan ss (o .1))
 
 -- ---- a journal, entry by entry: each was accepted in the state that those before it left
 pub data Went (f : Fixed) : Held → List Entry → Type 0 where
@@ -118,7 +122,7 @@ module _ (f : Fixed) where
           buffers = a .fit .buffers;
           output = rw (output-needs g s (a .plan)) (a .output);
           wrote = refl;
-          in-plan = all-in-plan (f .plan) (f .indices) (f .coefficients) (a .fit .list) (stepsOf (f .plan) (f .steps)) (sound .inside);
+          in-plan = all-in-plan (f .plan) (f .indices) (f .coefficients) (stepsOf (f .plan) (f .steps)) (all-placed (f .plan) (f .indices) (a .fit .list) (stepsOf (f .plan) (f .steps)) (sound .inside));
         }
 
     pub nodes-then : nodesOf (after f h (run directory samples out)) ≡ nodesAfter n steps (nodesOf h)

@@ -4,15 +4,14 @@ use mathlib.Core.Path.{_≡_, refl, sym, ap, _∙_}
 use mathlib.Core.Logic.{_⊎_, inl, inr}
 use mathlib.Core.Bool.{Bool, true, false, _||_, true≢false}
 use mathlib.Core.List.{List, [], _∷_}
-use Prim.Native.Nat.{ℕ, zero, suc, _+_, _*_, _<_}
-use native.Mathlib.Nat.{not-suc-le-zero, le-of-suc-le-suc, zero-mul, zero-add}
+use Prim.Native.Nat.{ℕ, zero, suc, _<_}
+use native.Mathlib.Nat.{not-suc-le-zero, le-of-suc-le-suc}
 use native.Mathlib.Decide.{ℕ-discrete}
 use native.Mathlib.Omega.{arith}
 use lib.Dec.{eqb}
-use lib.ListN.{length}
 use lib.Ieee.{Float}
 use borrow.Author.Tests.{eqb-false}
-use Rattle.lists.specs.Entries.{has}
+use Rattle.lists.specs.Entries.{has, AllBelow}
 use Rattle.node.specs.declared.Node.{Node}
 use Rattle.node.specs.Nodes.{gainOf, factor, finishBlock, Full}
 use Rattle.node.specs.Areas.{Room, nodeAt, storedFloats, storedWords}
@@ -20,46 +19,14 @@ use Rattle.node.proofs.Kept.{full-load, full-finish}
 use Rattle.node.proofs.Left.{finish-rest, factor-rest}
 use Rattle.node.proofs.Areas.{stored-same, stored-other}
 use Rattle.mix.specs.Mix.{NotIn}
-use Rattle.plan.specs.Resolved.{Resolved, patch, gain, matrix, clear, send, output}
-use Rattle.run.specs.Run.{State, stepped, outputChannels}
+use Rattle.plan.specs.Resolved.{Resolved, patch, gain, matrix, clear, send, output, nodeNamed, dstOf}
+use Rattle.run.specs.Run.{State, stepped}
 use Rattle.run.proofs.States.{step-lengths}
 use Rattle.theorem.proofs.Agree.{All, Hold}
 
 -- a step's node is one of `count`, and the buffers that it writes are among m
 abbrev pub InPlan : ℕ → ℕ → Resolved → Type 0
-InPlan count m (patch i c d) = d < m
-InPlan count m (gain n src dst) = (n < count) × All (λ d. d < m) dst
-InPlan count m (matrix n src dst) = (n < count) × All (λ d. d < m) dst
-InPlan count m (clear dst) = All (λ d. d < m) dst
-InPlan count m (send n src dst weights) = (n < count) × All (λ d. d < m) dst
-InPlan count m (output src slot) = Unit {0}
-
--- the channels that a step appends to the output
-abbrev pub width : Resolved → ℕ
-width (patch i c d) = 0
-width (gain n src dst) = 0
-width (matrix n src dst) = 0
-width (clear dst) = 0
-width (send n src dst weights) = 0
-width (output src slot) = length src
-
-pub channels-more : (x : Resolved) (xs : List Resolved) → outputChannels (x ∷ xs) ≡ width x + outputChannels xs
-unfolding outputChannels
-channels-more (patch i c d) xs = sym (zero-add _)
-channels-more (gain n src dst) xs = sym (zero-add _)
-channels-more (matrix n src dst) xs = sym (zero-add _)
-channels-more (clear dst) xs = sym (zero-add _)
-channels-more (send n src dst weights) xs = sym (zero-add _)
-channels-more (output src slot) xs = refl
-
-pub wrote-step : (block : ℕ) (input : ℕ → ℕ → List Float) (x : Resolved) (s : State) → stepped block input x s .wrote ≡ s .wrote + width x * block
-unfolding stepped
-wrote-step block input (patch i c d) s = rw zero-mul (omega arith)
-wrote-step block input (gain n src dst) s = rw zero-mul (omega arith)
-wrote-step block input (matrix n src dst) s = rw zero-mul (omega arith)
-wrote-step block input (clear dst) s = rw zero-mul (omega arith)
-wrote-step block input (send n src dst weights) s = rw zero-mul (omega arith)
-wrote-step block input (output src slot) s = refl
+InPlan count m x = AllBelow count (nodeNamed x) × All (λ d. d < m) (dstOf x)
 
 -- a buffer that is not in a list
 pub none-of : (dst : List ℕ) (b : ℕ) → has dst b ≡ false → NotIn b dst
@@ -151,10 +118,10 @@ module _ (count m b₁ k₁ b₂ k₂ : ℕ) (h₁ : k₁ < b₁) (h₂ : k₂ <
         ((n : ℕ) → n < count → nodeAt (t₁ .floats) (t₁ .words) n ≡ nodeAt (t₂ .floats) (t₂ .words) n) × Steady (t₁ .floats) (t₁ .words)
     unfolding stepped ended₁ ended₂
     nodes-after (patch i c d) o = (t .same, t .steady)
-    nodes-after (gain n src dst) o = (end-same s₁ s₂ t n (o .0), end-steady s₁ s₂ t n (o .0))
-    nodes-after (matrix n src dst) o = (end-same s₁ s₂ t n (o .0), end-steady s₁ s₂ t n (o .0))
+    nodes-after (gain n src dst) o = (end-same s₁ s₂ t n (o .0 .0), end-steady s₁ s₂ t n (o .0 .0))
+    nodes-after (matrix n src dst) o = (end-same s₁ s₂ t n (o .0 .0), end-steady s₁ s₂ t n (o .0 .0))
     nodes-after (clear dst) o = (t .same, t .steady)
-    nodes-after (send n src dst weights) o = (end-same s₁ s₂ t n (o .0), end-steady s₁ s₂ t n (o .0))
+    nodes-after (send n src dst weights) o = (end-same s₁ s₂ t n (o .0 .0), end-steady s₁ s₂ t n (o .0 .0))
     nodes-after (output src slot) o = (t .same, t .steady)
 
     pub nodes-step : (x : Resolved) → InPlan count m x → SameNodes (stepped b₁ input₁ x s₁) (stepped b₂ input₂ x s₂)
