@@ -2,7 +2,7 @@
 -- after which there may be others. Assumes nothing.
 use mathlib.Core.Path.{_≡_, refl, sym, ap, _∙_}
 use mathlib.Core.Bool.{Bool, true, false, cond}
-use mathlib.Core.List.{List, _++_}
+use mathlib.Core.List.{List, [], _∷_, _++_}
 use Prim.Native.Nat.{ℕ, suc, _+_, _%_, _^_, _≤_, _<_}
 use native.Mathlib.Nat.{add-assoc, add-zero}
 use native.Mathlib.Decide.{ℕ-discrete}
@@ -15,7 +15,7 @@ use borrow.Author.Tests.{ltb-true, ltb-false, leb-true, leb-false, le-leb, lt-le
 use Rattle.plan.specs.declared.Step.{Step}
 use Rattle.plan.specs.declared.Read.{Read}
 use Rattle.plan.specs.declared.Read.the-variants.{Found, Bad}
-use Rattle.plan.specs.Words.{patchMap, gainMap, matrixMap, clearMap, sendMap, outputMap, fields, field, stepOf, readAt}
+use Rattle.plan.specs.Words.{patchMap, gainMap, matrixMap, clearMap, sendMap, outputMap, fields, field, stepOf, readAt, Row, kinds, mapOf, fieldsIn, stepAmong}
 use Rattle.plan.specs.Records.{word, patchAt, gainAt, matrixAt, clearAt, sendAt, outputAt}
 use Rattle.plan.proofs.Words.{patch-fields, gain-fields, matrix-fields, clear-fields, send-fields, output-fields, read-past, read-cut, read-unnamed, read-patch, read-gain, read-matrix, read-clear, read-send, read-output}
 
@@ -149,21 +149,19 @@ module _ (xs ys : List ℕ) (at : ℕ) where
   module _ (map : ℕ) where
     same-field : (b : ℕ) → field (xs ++ ys) (k + at) map b ≡ field ys at map b
     same-field b =
-        let i : ℕ = 1 + ones (map % 2 ^ b) in
+        let i : ℕ = 1 + ones (fieldsIn map % 2 ^ b) in
         ap (word (xs ++ ys)) (add-assoc k at i) ∙ getD-append-add xs ys (at + i) 0
+
+    among-offset : (ks : List Row) → stepAmong ks (xs ++ ys) (k + at) map ≡ moved k (stepAmong ks ys at map)
+    unfolding stepAmong
+    among-offset [] = refl
+    among-offset (row ∷ ks) =
+        let f : field (xs ++ ys) (k + at) map ≡ field ys at map = λ t b. same-field b t in
+        moved-cond k (eqb map (mapOf (row .bits))) _ _ (moved-found k at (1 + fields map) (ap (row .made) f)) (among-offset ks)
 
     step-offset : stepOf (xs ++ ys) (k + at) map ≡ moved k (stepOf ys at map)
     unfolding stepOf
-    step-offset =
-        let f = same-field in
-        let n : ℕ = 1 + fields map in
-        moved-cond k (eqb map patchMap) _ _ (moved-found k at n (cc (f 0, f 1, f 2)))
-        (moved-cond k (eqb map gainMap) _ _ (moved-found k at n (cc (f 3, f 4, f 5, f 6, f 7)))
-        (moved-cond k (eqb map matrixMap) _ _ (moved-found k at n (cc (f 3, f 4, f 5, f 6, f 7)))
-        (moved-cond k (eqb map clearMap) _ _ (moved-found k at n (cc (f 6, f 7)))
-        (moved-cond k (eqb map sendMap) _ _ (moved-found k at n (cc (f 3, f 4, f 5, f 6, f 7, f 8, f 9)))
-        (moved-cond k (eqb map outputMap) _ _ (moved-found k at n (cc (f 4, f 5, f 10)))
-        refl)))))
+    step-offset = among-offset kinds
 
   pub read-offset : readAt (xs ++ ys) (k + at) ≡ moved k (readAt ys at)
   unfolding readAt

@@ -14,7 +14,7 @@ use Rattle.plan.specs.declared.Step.{Step}
 use Rattle.plan.specs.declared.Step.the-variants.{Patch, Gain, Matrix, Clear, Send, Output}
 use Rattle.plan.specs.declared.Read.{Read}
 use Rattle.plan.specs.declared.Read.the-variants.{Found, Bad}
-use Rattle.plan.specs.Words.{patchMap, gainMap, matrixMap, clearMap, sendMap, outputMap, fieldBits, fields, stepOf, readAt, decodedFrom, decoded}
+use Rattle.plan.specs.Words.{patchMap, gainMap, matrixMap, clearMap, sendMap, outputMap, maxFields, fields, stepAmong, stepOf, readAt, decodedFrom, decoded}
 use Rattle.plan.specs.Records.{word, patchAt, gainAt, matrixAt, clearAt, sendAt, outputAt}
 
 -- ---- document 01's decimal numbers
@@ -37,7 +37,7 @@ pub output-map : outputMap ≡ 1072
 output-map = refl
 
 -- ---- how many fields a map can have, and the fields of each
-pub fields-few : (map : ℕ) → fields map ≤ fieldBits
+pub fields-few : (map : ℕ) → fields map ≤ maxFields
 fields-few map = ones-le 11 (map % 2048) (omega arith)
 
 pub patch-fields : fields patchMap ≡ 3
@@ -86,7 +86,7 @@ module _ (w : List ℕ) (at : ℕ) where
   -- a map that is not named, with its fields or not
   pub read-unnamed : (word w at ≡ patchMap → ⊥) → (word w at ≡ gainMap → ⊥) → (word w at ≡ matrixMap → ⊥) → (word w at ≡ clearMap → ⊥)
       → (word w at ≡ sendMap → ⊥) → (word w at ≡ outputMap → ⊥) → readAt w at ≡ Bad
-  unfolding readAt stepOf
+  unfolding readAt stepOf stepAmong
   read-unnamed h1 h2 h3 h4 h5 h6 =
       rw (
         ne-eqb (word w at) patchMap h1,
@@ -104,27 +104,27 @@ module _ (w : List ℕ) (at : ℕ) where
 
   -- ---- by the kind of the map
   step-patch : stepOf w at patchMap ≡ Found (patchAt w at) (at + 4)
-  unfolding stepOf ones onesIn
+  unfolding stepOf stepAmong ones onesIn
   step-patch = refl
 
   step-gain : stepOf w at gainMap ≡ Found (gainAt w at) (at + 6)
-  unfolding stepOf ones onesIn
+  unfolding stepOf stepAmong ones onesIn
   step-gain = refl
 
   step-matrix : stepOf w at matrixMap ≡ Found (matrixAt w at) (at + 6)
-  unfolding stepOf ones onesIn
+  unfolding stepOf stepAmong ones onesIn
   step-matrix = refl
 
   step-clear : stepOf w at clearMap ≡ Found (clearAt w at) (at + 3)
-  unfolding stepOf ones onesIn
+  unfolding stepOf stepAmong ones onesIn
   step-clear = refl
 
   step-send : stepOf w at sendMap ≡ Found (sendAt w at) (at + 8)
-  unfolding stepOf ones onesIn
+  unfolding stepOf stepAmong ones onesIn
   step-send = refl
 
   step-output : stepOf w at outputMap ≡ Found (outputAt w at) (at + 4)
-  unfolding stepOf ones onesIn
+  unfolding stepOf stepAmong ones onesIn
   step-output = refl
 
   named : (map fs : ℕ) {t : Step} → fields map ≡ fs → stepOf w at map ≡ Found t (at + (1 + fs)) → word w at ≡ map → at + fs < length w

@@ -1,31 +1,38 @@
 -- The step of each kind by the places of its fields, which stand in the order of their bits after the map at `at`. That `readAt` gives these
 -- is proved (proofs/Words.antt). Definitions only.
 use Prim.Native.Nat.{ℕ, _+_}
-use mathlib.Core.List.{List}
+use mathlib.Core.Bool.{cond}
+use mathlib.Core.List.{List, [], _∷_}
+use lib.Dec.{ltb}
 use lib.ListN.{getD}
 use Rattle.plan.specs.declared.Step.{Step}
-use Rattle.plan.specs.declared.Step.the-variants.{Patch, Gain, Matrix, Clear, Send, Output}
-use Rattle.plan.specs.Words.{span}
+use Rattle.plan.specs.Words.{Row, patchKind, gainKind, matrixKind, clearKind, sendKind, outputKind}
 
 abbrev pub word : List ℕ → ℕ → ℕ
 word w at = getD w at 0
 
+-- how many of a list of bits are below b
+abbrev pub below : ℕ → List ℕ → ℕ
+below b [] = 0
+below b (c ∷ cs) = cond (ltb c b) 1 0 + below b cs
+
+abbrev pub recordAt : Row → List ℕ → ℕ → Step
+recordAt k w at = k .made (λ b. word w (at + (1 + below b (k .bits))))
+
 abbrev pub patchAt : List ℕ → ℕ → Step
-patchAt w at = Patch (word w (at + 1)) (word w (at + 2)) (word w (at + 3))
+patchAt = recordAt patchKind
 
 abbrev pub gainAt : List ℕ → ℕ → Step
-gainAt w at = Gain (word w (at + 1)) (span (word w (at + 2)) (word w (at + 3))) (span (word w (at + 4)) (word w (at + 5)))
+gainAt = recordAt gainKind
 
 abbrev pub matrixAt : List ℕ → ℕ → Step
-matrixAt w at = Matrix (word w (at + 1)) (span (word w (at + 2)) (word w (at + 3))) (span (word w (at + 4)) (word w (at + 5)))
+matrixAt = recordAt matrixKind
 
 abbrev pub clearAt : List ℕ → ℕ → Step
-clearAt w at = Clear (span (word w (at + 1)) (word w (at + 2)))
+clearAt = recordAt clearKind
 
 abbrev pub sendAt : List ℕ → ℕ → Step
-sendAt w at =
-    Send (word w (at + 1)) (span (word w (at + 2)) (word w (at + 3))) (span (word w (at + 4)) (word w (at + 5)))
-    (span (word w (at + 6)) (word w (at + 7)))
+sendAt = recordAt sendKind
 
 abbrev pub outputAt : List ℕ → ℕ → Step
-outputAt w at = Output (span (word w (at + 1)) (word w (at + 2))) (word w (at + 3))
+outputAt = recordAt outputKind

@@ -47,64 +47,103 @@ coefficientLength = 9
 abbrev pub slot : ℕ
 slot = 10
 
--- bits 0 to 10 have a field, and bit 11 has none
-abbrev pub fieldBits : ℕ
-fieldBits = 11
-
+-- bit 11 has no field, and tells the map of a Matrix from that of a Gain
 abbrev pub noField : ℕ
 noField = 11
 
--- ---- the table of kinds: the bits of each kind's map
+-- the bits of a map that have a field: 0 to 10
+abbrev pub fieldsIn : ℕ → ℕ
+fieldsIn map = map % 2 ^ 11
 
+-- and so the most fields that a map has
+abbrev pub maxFields : ℕ
+maxFields = 11
+
+-- ---- the table of kinds
+
+abbrev pub span : ℕ → ℕ → Span
+span start len = record { start = start; len = len }
+
+-- a row has a kind of step: the bits of its map, and the step, from the field of each bit
+pub record Row : Type 0 where
+  pub bits : List ℕ
+  pub made : (ℕ → ℕ) → Step
+
+abbrev pub patchKind : Row
+patchKind = record { bits = input ∷ channel ∷ dstBuffer ∷ []; made = λ f. Patch (f input) (f channel) (f dstBuffer) }
+
+abbrev pub gainKind : Row
+gainKind =
+    record {
+      bits = node ∷ srcStart ∷ srcLength ∷ dstStart ∷ dstLength ∷ [];
+      made = λ f. Gain (f node) (span (f srcStart) (f srcLength)) (span (f dstStart) (f dstLength));
+    }
+
+abbrev pub matrixKind : Row
+matrixKind =
+    record {
+      bits = node ∷ srcStart ∷ srcLength ∷ dstStart ∷ dstLength ∷ noField ∷ [];
+      made = λ f. Matrix (f node) (span (f srcStart) (f srcLength)) (span (f dstStart) (f dstLength));
+    }
+
+abbrev pub clearKind : Row
+clearKind = record { bits = dstStart ∷ dstLength ∷ []; made = λ f. Clear (span (f dstStart) (f dstLength)) }
+
+abbrev pub sendKind : Row
+sendKind =
+    record {
+      bits = node ∷ srcStart ∷ srcLength ∷ dstStart ∷ dstLength ∷ coefficientStart ∷ coefficientLength ∷ [];
+      made = λ f.
+          Send (f node) (span (f srcStart) (f srcLength)) (span (f dstStart) (f dstLength)) (span (f coefficientStart) (f coefficientLength));
+    }
+
+abbrev pub outputKind : Row
+outputKind = record { bits = srcStart ∷ srcLength ∷ slot ∷ []; made = λ f. Output (span (f srcStart) (f srcLength)) (f slot) }
+
+abbrev pub kinds : List Row
+kinds = patchKind ∷ gainKind ∷ matrixKind ∷ clearKind ∷ sendKind ∷ outputKind ∷ []
+
+-- the map of a kind
 abbrev pub mapOf : List ℕ → ℕ
 mapOf [] = 0
 mapOf (b ∷ bs) = 2 ^ b + mapOf bs
 
 abbrev pub patchMap : ℕ
-patchMap = mapOf (input ∷ channel ∷ dstBuffer ∷ [])
+patchMap = mapOf (patchKind .bits)
 
 abbrev pub gainMap : ℕ
-gainMap = mapOf (node ∷ srcStart ∷ srcLength ∷ dstStart ∷ dstLength ∷ [])
+gainMap = mapOf (gainKind .bits)
 
 abbrev pub matrixMap : ℕ
-matrixMap = mapOf (node ∷ srcStart ∷ srcLength ∷ dstStart ∷ dstLength ∷ noField ∷ [])
+matrixMap = mapOf (matrixKind .bits)
 
 abbrev pub clearMap : ℕ
-clearMap = mapOf (dstStart ∷ dstLength ∷ [])
+clearMap = mapOf (clearKind .bits)
 
 abbrev pub sendMap : ℕ
-sendMap = mapOf (node ∷ srcStart ∷ srcLength ∷ dstStart ∷ dstLength ∷ coefficientStart ∷ coefficientLength ∷ [])
+sendMap = mapOf (sendKind .bits)
 
 abbrev pub outputMap : ℕ
-outputMap = mapOf (srcStart ∷ srcLength ∷ slot ∷ [])
+outputMap = mapOf (outputKind .bits)
 
 -- ---- a record: its map stands at `at`
 
--- how many fields a map has: the ones among bits 0 to 10
+-- how many fields a map has
 abbrev pub fields : ℕ → ℕ
-fields map = ones (map % 2 ^ fieldBits)
+fields map = ones (fieldsIn map)
 
 -- the field of bit b stands after those of the lower bits
 abbrev pub field : List ℕ → ℕ → ℕ → ℕ → ℕ
-field w at map b = getD w (at + (1 + ones (map % 2 ^ b))) 0
+field w at map b = getD w (at + (1 + ones (fieldsIn map % 2 ^ b))) 0
 
-abbrev pub span : ℕ → ℕ → Span
-span start len = record { start = start; len = len }
+-- the step of a map that one of a list of kinds has, and the place after its record
+unfoldable pub stepAmong : List Row → List ℕ → ℕ → ℕ → Read
+stepAmong [] w at map = Bad
+stepAmong (k ∷ ks) w at map = cond (eqb map (mapOf (k .bits))) (Found (k .made (field w at map)) (at + (1 + fields map))) (stepAmong ks w at map)
 
--- the step of a map that is named, and the place after its record
 unfoldable pub stepOf : List ℕ → ℕ → ℕ → Read
-stepOf w at map =
-    let f : ℕ → ℕ = field w at map in
-    let src : Span = span (f srcStart) (f srcLength) in
-    let dst : Span = span (f dstStart) (f dstLength) in
-    let next : ℕ = at + (1 + fields map) in
-    cond (eqb map patchMap) (Found (Patch (f input) (f channel) (f dstBuffer)) next)
-    (cond (eqb map gainMap) (Found (Gain (f node) src dst) next)
-    (cond (eqb map matrixMap) (Found (Matrix (f node) src dst) next)
-    (cond (eqb map clearMap) (Found (Clear dst) next)
-    (cond (eqb map sendMap) (Found (Send (f node) src dst (span (f coefficientStart) (f coefficientLength))) next)
-    (cond (eqb map outputMap) (Found (Output src (f slot)) next)
-    Bad)))))
+unfolding stepAmong
+stepOf w at map = stepAmong kinds w at map
 
 -- What stands at a place: a step and the place after it; or Bad, where the map or a field is past the end or the map is not named.
 unfoldable pub readAt : List ℕ → ℕ → Read

@@ -7,7 +7,7 @@ ghost use mathlib.Core.Path.{_≡_};
 ghost use Prim.Native.Nat.{_+_, _<_, _≤_};
 ghost use lib.Dec.{leb};
 ghost use lib.ListN.{length};
-ghost use Rattle.plan.specs.Words.{fieldBits, fields, readAt};
+ghost use Rattle.plan.specs.Words.{maxFields, fields, readAt};
 ghost use Rattle.plan.specs.Records.{patchAt, gainAt, matrixAt, clearAt, sendAt, outputAt};
 
 // The step of each kind whose map stands at `at`. Each requires that its fields are all there.
@@ -115,7 +115,7 @@ const NO_FIELD: u32 = 2048;
 const MAX_FIELDS: usize = 11;
 
 pub fn field_count(map: u32) -> usize
-    ensures { λ r. ⌜ (r ≡ fields map) × (r ≤ fieldBits) ⌝ }
+    ensures { λ r. ⌜ (r ≡ fields map) × (r ≤ maxFields) ⌝ }
 {
     u32::count_ones(map % NO_FIELD) as usize
 }
