@@ -1,19 +1,21 @@
 -- A plan whose run was accepted stays accepted: whatever settings and runs follow, only the input block and the output area can be refused later.
 -- An accepted setting changes no answer of the admission. Assumes nothing.
 use mathlib.Core.Path.{_≡_, refl, sym, ap, _∙_}
-use mathlib.Core.Bool.{Bool, false}
+use mathlib.Core.Bool.{Bool, false, true, not, cond}
 use mathlib.Core.List.{List, [], _∷_, map}
 use Prim.Native.Nat.{ℕ, _*_, _<_}
 use lib.Dec.{ltb}
 use lib.ListN.{length}
 use lib.Ieee.{Float}
-use Rattle.refusal.specs.Numbers.{badNode, badDirectory, shortOutput}
-use Rattle.refusal.specs.Tests.{Test, test, first}
+use borrow.Author.Tests.{le-ltb}
+use Rattle.refusal.specs.Numbers.{badNode, badDirectory, shortOutput, unknownId}
+use Rattle.refusal.specs.Tests.{Test, test, first, refusal}
 use Rattle.refusal.specs.declared.Refusal.{Refusal}
 use Rattle.refusal.specs.declared.Answer.{Answer}
 use Rattle.refusal.specs.declared.Answer.the-variants.{Accepted, Refused}
 use Rattle.refusal.proofs.Laws.{first-append, accepted-none, none-rest, none-accepted, refused-rest}
 use Rattle.node.specs.declared.Node.{Node}
+use Rattle.node.specs.Sizes.{nodeFloats, nodeWords, rampTooLong}
 use Rattle.node.specs.Nodes.{setNode}
 use Rattle.node.specs.Areas.{idAt, nodeAt, someBad}
 use Rattle.node.proofs.Kept.{id-set}
@@ -21,21 +23,23 @@ use Rattle.node.proofs.Areas.{length-stored-floats, length-stored-words}
 use Rattle.node.proofs.Bad.{in-range-set}
 use Rattle.plan.specs.declared.Plan.{Plan}
 use Rattle.plan.specs.declared.Step.{Step}
+use Rattle.plan.specs.Limits.{unitLimits}
 use Rattle.plan.specs.Sound.{Inside, Each, stepsOf}
 use Rattle.plan.specs.Resolved.{resolved}
 use Rattle.plan.proofs.Exact.{accepted-sound}
-use Rattle.plan.specs.Areas.{Areas, areas, shortAreas}
-use Rattle.plan.specs.Check.{planTests, checked, checkPlan}
+use Rattle.plan.specs.Areas.{Areas, areas, shortAreas, shorter}
+use Rattle.plan.specs.Check.{planTests, checked, checkPlan, idAmong}
 use Rattle.plan.proofs.Accepted.{accepted-room}
 use Rattle.plan.proofs.Front.{check-front}
 use Rattle.plan.proofs.Named.{node-inside}
 use Rattle.input.specs.Input.{lookup, directoryBad}
-use Rattle.setting.specs.Setting.{nodeOf}
+use Rattle.setting.specs.Setting.{nodeOf, settingAnswer}
 use Rattle.setting.proofs.Setting.{Settable, settable, node-named, floats-accepted, floats-refused, words-accepted, words-refused, node-good}
 use Rattle.run.specs.Run.{Given, State, outputChannels, admission, processed, runSteps}
 use Rattle.run.specs.Calls.{Fixed, Held, held, Call, set, run, givenTo, start, answer, after, afterAll, stepsOfPlan}
 use Rattle.run.proofs.Answers.{accepted-runs, refused-keeps}
 use Rattle.run.proofs.States.{Good, good-stored, good-run, run-lengths, NodesBelow}
+use Rattle.run.proofs.Admitted.{tested}
 
 -- lists of tests that answer the same with nothing after them answer the same whatever comes after
 first-same : (ts us : List Test) (rest : Answer) → first ts Accepted ≡ first us Accepted → first ts rest ≡ first us rest
@@ -203,6 +207,29 @@ module _ (f : Fixed) where
   stays-ready [] h r = r
   stays-ready (set id values ramp ∷ cs) h r = stays-ready cs (after f h (set id values ramp)) (set-ready h id values ramp r)
   stays-ready (run directory samples out ∷ cs) h r = stays-ready cs (after f h (run directory samples out)) (run-ready h directory samples out r)
+
+  -- so a run that is accepted is accepted after any of them too
+  pub still-admitted : (h : Held) (cs : List Call) (directory : List ℕ) (samples out : List Float)
+      → admission (givenTo f directory samples) (start f h out) ≡ Accepted
+      → admission (givenTo f directory samples) (start f (afterAll f h cs) out) ≡ Accepted
+  still-admitted h cs directory samples out e =
+      let r : Ready f h = accepted-ready f h directory samples out e in
+      ready-only f (afterAll f h cs) (stays-ready cs h r) directory samples out ∙ sym (ready-only f h r directory samples out) ∙ e
+
+  -- and of a setting whose ramp is not too long only the id can be refused
+  pub only-unknown : (h : Held) → Ready f h → (id : ℕ) (values : List Float) (ramp : ℕ) → rampTooLong ramp ≡ false
+      → answer f h (set id values ramp) ≡ cond (idAmong (h .words) (f .plan .nodes) id) Accepted (Refused (refusal unknownId 0))
+  unfolding settingAnswer
+  only-unknown h r id values ramp ok =
+      let t = tested (f .plan) (areasOf f h) (r .plan) in
+      let nodes : ltb (unitLimits .nodes) (f .plan .nodes) ≡ false = le-ltb _ _ (t .limits .nodes) in
+      let floats : shorter (length (h .floats)) (f .plan .nodes) nodeFloats ≡ false = le-ltb _ _ (t .room .floats) in
+      let words : shorter (length (h .words)) (f .plan .nodes) nodeWords ≡ false = le-ltb _ _ (t .room .words) in
+      rw (nodes, floats, words, r .nodes, t .ids, ok) (go (idAmong (h .words) (f .plan .nodes) id))
+    where
+      go : (b : Bool) → cond (not b) (Refused (refusal unknownId 0)) Accepted ≡ cond b Accepted (Refused (refusal unknownId 0))
+      go true = refl
+      go false = refl
 
   -- a refused run changes nothing
   pub refused-run : (h : Held) (directory : List ℕ) (samples out : List Float) (q : Refusal) → answer f h (run directory samples out) ≡ Refused q

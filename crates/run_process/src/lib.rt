@@ -1,11 +1,13 @@
-// A run of a plan over one block. Ports `Plan::process` of src/engine/plan.rs. The call is total, and a refused one changes nothing.
-mod admission;
+// A run of a plan over one block. Ports `Plan::process` of src/engine/plan.rs. The call is total, and a refused one changes nothing. `process` is a call of
+// the interface; the two halves of it that are `pub` too are for the crates above, and `run_block` says in its comment what it takes.
+mod answers;
 mod steps;
 
+pub use answers::admission;
 use plan::Plan;
 use refusal::Answer;
 use run::Ran;
-use steps::run_block;
+pub use steps::run_block;
 ghost use mathlib.Core.Path.{_≡_};
 ghost use Rattle.run.specs.Run.{given, state, processed, processAnswer};
 
@@ -28,7 +30,7 @@ pub fn process(
     ensures buffers { λ _. ⌜ now (buffers .exit) ≡ processed (given plan (now (indices .entry)) (now (coefficients .entry)) (now (steps .entry)) (now (directory .entry)) (now (samples .entry))) (state (now («node_floats» .entry)) (now («node_words» .entry)) (now (buffers .entry)) (now (output .entry)) 0) .buffers ⌝ }
     ensures output { λ _. ⌜ now (output .exit) ≡ processed (given plan (now (indices .entry)) (now (coefficients .entry)) (now (steps .entry)) (now (directory .entry)) (now (samples .entry))) (state (now («node_floats» .entry)) (now («node_words» .entry)) (now (buffers .entry)) (now (output .entry)) 0) .output ⌝ }
 {
-    let answer = admission::admission(
+    let answer = admission(
         plan,
         indices,
         coefficients,

@@ -6,6 +6,7 @@ use refusal::Refusal;
 ghost use mathlib.Core.Path.{_≡_};
 ghost use Prim.Native.Nat.{_*_, _≤_};
 ghost use lib.ListN.{length};
+ghost use Rattle.refusal.specs.declared.Answer.the-variants.{Accepted};
 ghost use Rattle.node.specs.Sizes.{nodeWords};
 ghost use Rattle.setting.specs.Setting.{nodeOf, settingAnswer, settingFloats, settingWords};
 
@@ -51,6 +52,25 @@ fn node_of(words: &[u32], n: usize, id: u32) -> usize
     0
 }
 
+// Ramps the node of the id to `values` over `ramp` samples, and tests nothing: for the crates above, not the interface. Requires a setting that
+// the tests accept.
+pub fn set_node(
+    nodes: usize,
+    id: u32,
+    values: &[f32],
+    ramp: u32,
+    node_floats: &mut [f32],
+    node_words: &mut [u32],
+)
+    requires { ⌜ settingAnswer nodes id ramp (length (now «node_floats»)) (now «node_words») ≡ Accepted ⌝ }
+    ensures floats { λ _. ⌜ now («node_floats» .exit) ≡ settingFloats nodes id (now (values .entry)) ramp (now («node_floats» .entry)) (now («node_words» .entry)) ⌝ }
+    ensures words { λ _. ⌜ now («node_words» .exit) ≡ settingWords nodes id (now (values .entry)) ramp (now («node_floats» .entry)) (now («node_words» .entry)) ⌝ }
+{
+    let n = node_of(&node_words[..], nodes, id);
+    let node = node_areas::load(&node_floats[..], &node_words[..], n);
+    node_areas::store(node.set(values, ramp), node_floats, node_words, n);
+}
+
 // Ramps the node of the id, among the `nodes` nodes of the lent areas, to `values` over `ramp` samples.
 pub fn set_param(
     nodes: usize,
@@ -67,9 +87,7 @@ pub fn set_param(
     match setting_answer(nodes, id, ramp, node_floats.len(), &node_words[..]) {
         Answer::Refused(r) => Answer::Refused(r),
         Answer::Accepted => {
-            let n = node_of(&node_words[..], nodes, id);
-            let node = node_areas::load(&node_floats[..], &node_words[..], n);
-            node_areas::store(node.set(values, ramp), node_floats, node_words, n);
+            set_node(nodes, id, values, ramp, node_floats, node_words);
             Answer::Accepted
         }
     }

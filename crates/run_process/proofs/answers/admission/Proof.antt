@@ -1,4 +1,4 @@
--- `run_process::admission::admission` meets its contract. Assumes nothing.
+-- `run_process::answers::admission` meets its contract. Assumes nothing.
 use mathlib.Core.Path.{_≡_, sym, _∙_}
 use mathlib.Core.Bool.{false}
 use Prim.Native.Nat.{_*_}
@@ -14,8 +14,8 @@ use Rattle.input.specs.Input.{directoryBad}
 use Rattle.run.specs.Run.{Given, State, given, state}
 use Rattle.run.proofs.Admitted.{Checked, tested, areas-of, by-plan, by-14, by-12, by-13, by-none}
 use borrow.Author.Needs.{needs}
-use Rattle.run_process.proofs.admission.admission.Statement.{statement}
-use Rattle.run_process.proofs.admission.admission.Tie as tie
+use Rattle.run_process.proofs.answers.admission.Statement.{statement}
+use Rattle.run_process.proofs.answers.admission.Tie as tie
 
 -- what the run reads, and what it changes
 abbrev g : tie.Start → Given
