@@ -1,7 +1,7 @@
 -- Tests joined by or, and: what each part is where the whole is false or true, the whole from its parts, and one that code works out from them; a test
 -- of equality the other way round. Assumes nothing.
 use mathlib.Core.Path.{_≡_, refl, sym}
-use mathlib.Core.Bool.{Bool, true, false, _||_, _&&_, true≢false, false≢true}
+use mathlib.Core.Bool.{Bool, true, false, not, _||_, _&&_, true≢false, false≢true}
 use mathlib.Core.Logic.{_⊎_, inl, inr}
 use Prim.Native.Nat.{ℕ}
 use lib.Dec.{eqb}
@@ -33,6 +33,16 @@ or-right false b e = e
 pub and-intro : (a b : Bool) → a ≡ true → b ≡ true → (a && b) ≡ true
 and-intro true b e f = f
 and-intro false b e f = absurd (false≢true e)
+
+-- two tests, neither of which is met
+pub first-not : (a b : Bool) → not a && not b ≡ true → a ≡ false
+first-not true b e = absurd (false≢true e)
+first-not false b e = refl
+
+pub second-not : (a b : Bool) → not a && not b ≡ true → b ≡ false
+second-not true b e = absurd (false≢true e)
+second-not false true e = absurd (false≢true e)
+second-not false false e = refl
 
 pub eqb-swap : (a b : ℕ) → eqb a b ≡ eqb b a
 eqb-swap a b = go (eqb a b) refl

@@ -7,7 +7,7 @@ use mathlib.Core.Logic.{_⊎_, inl, inr, ⊎-elim}
 use mathlib.Core.Path.{_≡_, refl, sym, ap, _∙_}
 use mathlib.Core.List.{List, [], _∷_, _++_, append-assoc}
 use lib.ListN.{length, set, getD, take, drop, length-take, length-drop, length-set, length-append}
-use lib.Seq.{getD-set-same, getD-set-other, take-nil, take-suc, take-take, length-take-le, take-set-le, drop-set-lt, take-at, take-all, drop-at, sets, sets-eq, length-sets}
+use lib.Seq.{getD-set-same, getD-set-other, take-nil, take-suc, take-take, length-take-le, take-set-le, drop-set-lt, take-at, take-all, drop-at, set-comm, sets, sets-eq, length-sets}
 use Rattle.lists.specs.Parts.{part}
 
 module _ {A : Type 0} where
@@ -49,6 +49,21 @@ module _ {A : Type 0} where
 
   pub stores-all : {area : List A} (l row : List A) (k i : ℕ) → area ≡ sets l k (take i row) → length row ≤ i → area ≡ sets l k row
   stores-all l row k i e h = e ∙ ap (sets l k) (take-all i row h)
+
+  -- ---- two runs at places apart, in either order
+  set-sets : (l : List A) (i : ℕ) (x : A) (k : ℕ) (vs : List A) → (i < k) ⊎ (k + length vs ≤ i) → set (sets l k vs) i x ≡ sets (set l i x) k vs
+  set-sets l i x k [] h = refl
+  set-sets l i x k (a ∷ vs) h =
+      set-sets (set l k a) i x (suc k) vs (⊎-elim (λ (p : i < k). inl (omega arith)) (λ (p : k + suc (length vs) ≤ i). inr (omega arith)) h)
+      ∙ ap (λ (z : List A). sets z (suc k) vs) (set-comm l k i a x (λ (e : k ≡ i). ⊎-elim (λ (p : i < k). omega arith) (λ (p : k + suc (length vs) ≤ i). omega arith) h))
+
+  pub sets-swap : (l : List A) (i : ℕ) (us : List A) (k : ℕ) (vs : List A) → (i + length us ≤ k) ⊎ (k + length vs ≤ i)
+      → sets (sets l i us) k vs ≡ sets (sets l k vs) i us
+  sets-swap l i [] k vs h = refl
+  sets-swap l i (a ∷ us) k vs h =
+      sets-swap (set l i a) (suc i) us k vs (⊎-elim (λ (p : i + suc (length us) ≤ k). inl (omega arith)) (λ (p : k + length vs ≤ i). inr (omega arith)) h)
+      ∙ ap (λ (z : List A). sets z (suc i) us)
+      (sym (set-sets l i a k vs (⊎-elim (λ (p : i + suc (length us) ≤ k). inl (omega arith)) (λ (p : k + length vs ≤ i). inr (omega arith)) h)))
 
   -- ---- what lies before the stores, and what lies after them
   pub take-sets : (n : ℕ) (l : List A) (k : ℕ) (vs : List A) → n ≤ k → take n (sets l k vs) ≡ take n l
