@@ -1,15 +1,19 @@
 -- What is taken for granted of lists of buffers, handed on to one row and to one pair of them; it goes by the area's length alone.
 -- Assumes nothing.
-use mathlib.Core.Path.{_≡_, refl, sym, _∙_}
+use mathlib.Core.Path.{_≡_, sym, ap, _∙_}
 use mathlib.Core.Bool.{Bool, true, false, not, _&&_, false≢true}
 use mathlib.Core.List.{List}
-use Prim.Native.Nat.{ℕ, suc, _+_, _*_, _<_, _≤_, min}
+use Prim.Native.Nat.{ℕ, zero, suc, _+_, _*_, _<_, _≤_, min}
 use native.Mathlib.Nat.{mul-le-mul-right, suc-mul}
 use native.Mathlib.Omega.{arith}
 use lib.ListN.{length, getD, take, length-take}
 use lib.Seq.{getD-take}
-use lib.Ieee.{Float}
-use Rattle.mix.specs.Mix.{Inside, Pair, Row, Buffers, used}
+use lib.Dec.{eqb}
+use lib.Ieee.{Float, nan}
+use borrow.Author.Tests.{eq-eqb}
+use Rattle.lists.proofs.Bools.{and-both, first-not, second-not}
+use Rattle.mix.specs.Mix.{isZero, Inside, Pair, Row, Buffers, used}
+use Rattle.mix.specs.Loops.{Four}
 
 -- buffer b of n is within the area
 pub buffer-inside : (n block b : ℕ) (area : List Float) → b < n → n * block ≤ length area → Inside block b area
@@ -26,6 +30,15 @@ module _ {block : ℕ} {src : List ℕ} {a b : List Float} (e : length b ≡ len
         source = omega (arith, r .sources i h);
         target = omega (arith, r .target);
         apart = λ w. r .apart i h (sym w);
+      }
+
+  pub row-kept : {d : ℕ} → Row block src d a → Row block src d b
+  row-kept r =
+      record {
+        small = r .small;
+        sources = λ i l. omega (arith, r .sources i l);
+        target = omega (arith, r .target);
+        apart = r .apart;
       }
 
   pub row-of : {dst : List ℕ} → Buffers block src dst a → (j : ℕ) → j < length dst → Row block src (getD dst j 0) b
@@ -52,12 +65,34 @@ channel-of src dst e r c h =
       apart = λ w. r .apart c hs c hd (es ∙ w ∙ sym ed);
     }
 
--- two tests, neither of which is met
-pub first-not : (a b : Bool) → not a && not b ≡ true → a ≡ false
-first-not true b e = absurd (false≢true e)
-first-not false b e = refl
+-- two columns and two rows, by the tests of the lengths, of the weights and of the rows
+pub four-enough : (src dst : List ℕ) (weights : List Float) → length src ≡ 2 → length dst ≡ 2 → length dst * length src ≤ length weights → 4 ≤ length weights
+four-enough src dst weights s d h = rw (d, s) at h
 
-pub second-not : (a b : Bool) → not a && not b ≡ true → b ≡ false
-second-not true b e = absurd (false≢true e)
-second-not false true e = absurd (false≢true e)
-second-not false false e = refl
+pub four-of : (src dst : List ℕ) (weights : List Float) → length src ≡ 2 → length dst ≡ 2 → length dst * length src ≤ length weights
+    → not (isZero (getD weights 0 nan)) && not (isZero (getD weights 1 nan)) && (not (isZero (getD weights 2 nan)) && not (isZero (getD weights 3 nan))) && not (eqb (getD dst 1 0) (getD dst 0 0)) ≡ true
+    → Four src dst weights
+four-of src dst weights s d h e =
+    record {
+      columns = s;
+      rows = d;
+      enough = four-enough src dst weights s d h;
+      differ = λ w. false≢true (sym (ap not (eq-eqb (getD dst 1 0) (getD dst 0 0) w)) ∙ all .1);
+      weighted = each;
+    }
+  where
+    z : ℕ → Bool
+    z i = isZero (getD weights i nan)
+
+    all : (not (z 0) && not (z 1) && (not (z 2) && not (z 3)) ≡ true) × (not (eqb (getD dst 1 0) (getD dst 0 0)) ≡ true)
+    all = and-both (not (z 0) && not (z 1) && (not (z 2) && not (z 3))) (not (eqb (getD dst 1 0) (getD dst 0 0))) e
+
+    pairs : (not (z 0) && not (z 1) ≡ true) × (not (z 2) && not (z 3) ≡ true)
+    pairs = and-both (not (z 0) && not (z 1)) (not (z 2) && not (z 3)) (all .0)
+
+    each : (i : ℕ) → i < 4 → z i ≡ false
+    each zero l = first-not (z 0) (z 1) (pairs .0)
+    each (suc zero) l = second-not (z 0) (z 1) (pairs .0)
+    each (suc (suc zero)) l = first-not (z 2) (z 3) (pairs .1)
+    each (suc (suc (suc zero))) l = second-not (z 2) (z 3) (pairs .1)
+    each (suc (suc (suc (suc i)))) l = absurd (omega arith)

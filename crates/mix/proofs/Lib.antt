@@ -4,8 +4,10 @@
 pub mod Stored
 -- one buffer that is written: its samples, the others, and writes that change nothing
 pub mod Put
--- the loops over the samples of a piece, and pieces that make a buffer
+-- the loops over the samples of a piece, and a piece through a local
 pub mod Mixed
+-- the last samples one by one, and pieces that make a buffer, or two
+pub mod Pieces
 -- a row of a Matrix, by columns and by samples
 pub mod Rows
 -- a turn of each loop over a list of buffers

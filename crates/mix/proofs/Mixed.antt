@@ -1,11 +1,11 @@
--- A ramp over a piece; the loops over the samples of a piece, one piece of a buffer through a local, and pieces that make a whole buffer: one law for whatever is
--- done to a sample. Assumes nothing.
-use mathlib.Core.Path.{_≡_, refl, ap, _∙_}
+-- A ramp over a piece; the loops over the samples of a piece, and one piece of a buffer, or of two buffers, through a local: one law for whatever is done to a
+-- sample. Assumes nothing.
+use mathlib.Core.Path.{_≡_, refl, sym, ap, _∙_}
 use mathlib.Core.Bool.{true}
 use mathlib.Core.List.{List}
-use mathlib.Core.Logic.{inr}
-use Prim.Native.Nat.{ℕ, _+_, _-_, _*_, _≤_, _<_}
-use native.Mathlib.Nat.{zero-add, add-assoc}
+use mathlib.Core.Logic.{inl, inr, ⊎-elim}
+use Prim.Native.Nat.{ℕ, _+_, _-_, _≤_, _<_}
+use native.Mathlib.Nat.{zero-add}
 use native.Mathlib.Omega.{arith}
 use lib.ListN.{length, getD, drop, set, replicate, length-take, length-drop, length-replicate, getD-replicate}
 use lib.Seq.{sets, length-sets, getD-take, getD-drop}
@@ -16,11 +16,9 @@ use Rattle.lists.proofs.Stores.{getD-sets}
 use Rattle.node.specs.declared.Gain.{Gain}
 use Rattle.node.specs.declared.Gain.the-variants.{Rest, Moving}
 use Rattle.node.specs.Nodes.{ramping}
-use Rattle.mix.specs.Samples.{silence, sample, sampled, put}
-use Rattle.mix.specs.Mix.{Pair}
-use Rattle.mix.specs.Loops.{wholePiece, mixedInto, mixedAt, twoAt}
-use Rattle.mix.proofs.Stored.{length-sampled, turn, run-more, stored-at, sampled-same, none-stored}
-use Rattle.mix.proofs.Put.{begun-other, begun-same}
+use Rattle.mix.specs.Samples.{silence, sampled}
+use Rattle.mix.specs.Loops.{wholePiece, mixedInto, mixedAt, twoAt, Apart}
+use Rattle.mix.proofs.Stored.{length-sampled, turn, stored-at, sampled-same}
 
 -- ---- a ramp that lasts to a sample lasts to every one before it
 pub ramping-before : (g : Gain) (m n : ℕ) → m ≤ n → ramping g n ≡ true → ramping g m ≡ true
@@ -74,6 +72,12 @@ pub samples-stored : {H : ℕ → Float} (F : ℕ → Float) (a : List Float) (p
     → ((i : ℕ) → i < m → H i ≡ F i) → b ≡ sets a p (sampled m F)
 samples-stored {H} F a p m e same = e ∙ ap (λ (l : List Float). sets a p l) (sampled-same m H F same)
 
+-- the first n of a part stored: a sample of a part that does not overlap it
+pub apart-kept : (F : ℕ → Float) (a : List Float) (to m p i n : ℕ) → Apart p to m → i < m → n ≤ m → getD (sets a to (sampled n F)) (p + i) nan ≡ getD a (p + i) nan
+apart-kept F a to m p i n o l h =
+    getD-sets (p + i) a to (sampled n F) nan
+    (⊎-elim (λ (u : p + m ≤ to). inl (omega arith)) (λ (u : to + m ≤ p). inr (omega (arith, length-sampled n F))) o)
+
 -- a piece: the destination's samples go to a local, the source's are mixed into it, and it is stored
 pub piece-mixed : (f h : ℕ → Float → Float → Float) (from to m k : ℕ) (a t₀ : List Float) {t₁ t₂ b : List Float}
     → from + m ≤ length a → to + m ≤ length a → m ≤ length t₀ → ((i : ℕ) → k ≤ i → (x y : Float) → h i x y ≡ f i x y)
@@ -86,7 +90,22 @@ piece-mixed f h from to m k a t₀ {t₁} {t₂} hf ht h₀ same e₁ e₂ e₃ 
     (λ i l. part-mixed f h k from m a t₁ hf (omega arith) same e₂ i l
     ∙ ap (λ (v : Float). f (k + i) (getD a (from + i) nan) v) (part-mixed (λ k x y. x) (λ k x y. x) 0 to m a t₀ ht h₀ (λ i l x y. refl) e₁ i l))
 
--- a piece of two sources, one mixed into the local after the other, by functions that are f and q from sample k on
+-- two sources, one mixed into the local after the other, by functions that are f and q from sample k on: the local, and the piece
+two-mixed : (f q f' q' : ℕ → Float → Float → Float) (from other to m k : ℕ) (a t₀ : List Float) {t₁ t₂ t₃ : List Float}
+    → from + m ≤ length a → other + m ≤ length a → to + m ≤ length a → m ≤ length t₀
+    → ((i : ℕ) → k ≤ i → (x y : Float) → f' i x y ≡ f i x y) → ((i : ℕ) → k ≤ i → (x y : Float) → q' i x y ≡ q i x y)
+    → t₁ ≡ mixedInto (λ k x y. x) 0 (length (midOf to (to + m - to) a)) (midOf to (to + m - to) a) t₀
+    → t₂ ≡ mixedInto f' k (length (midOf from (from + m - from) a)) (midOf from (from + m - from) a) t₁
+    → t₃ ≡ mixedInto q' k (length (midOf other (other + m - other) a)) (midOf other (other + m - other) a) t₂
+    → (i : ℕ) → i < m → getD t₃ i nan ≡ q (k + i) (getD a (other + i) nan) (f (k + i) (getD a (from + i) nan) (getD a (to + i) nan))
+two-mixed f q f' q' from other to m k a t₀ {t₁} {t₂} {t₃} hf hz ht h₀ same-f same-q e₁ e₂ e₃ i l =
+    let n₁ : length t₁ ≡ length t₀ = ap length e₁ ∙ length-mixed (λ k x y. x) 0 (midOf to (to + m - to) a) t₀ (length (midOf to (to + m - to) a)) in
+    let n₂ : length t₂ ≡ length t₁ = ap length e₂ ∙ length-mixed f' k (midOf from (from + m - from) a) t₁ (length (midOf from (from + m - from) a)) in
+    part-mixed q q' k other m a t₂ hz (omega arith) same-q e₃ i l
+    ∙ ap (λ (v : Float). q (k + i) (getD a (other + i) nan) v)
+    (part-mixed f f' k from m a t₁ hf (omega arith) same-f e₂ i l
+    ∙ ap (λ (v : Float). f (k + i) (getD a (from + i) nan) v) (part-mixed (λ k x y. x) (λ k x y. x) 0 to m a t₀ ht h₀ (λ i l x y. refl) e₁ i l))
+
 pub piece-two : (f q f' q' : ℕ → Float → Float → Float) (from other to m k : ℕ) (a t₀ : List Float) {t₁ t₂ t₃ b : List Float}
     → from + m ≤ length a → other + m ≤ length a → to + m ≤ length a → m ≤ length t₀
     → ((i : ℕ) → k ≤ i → (x y : Float) → f' i x y ≡ f i x y) → ((i : ℕ) → k ≤ i → (x y : Float) → q' i x y ≡ q i x y)
@@ -94,14 +113,27 @@ pub piece-two : (f q f' q' : ℕ → Float → Float → Float) (from other to m
     → t₂ ≡ mixedInto f' k (length (midOf from (from + m - from) a)) (midOf from (from + m - from) a) t₁
     → t₃ ≡ mixedInto q' k (length (midOf other (other + m - other) a)) (midOf other (other + m - other) a) t₂
     → b ≡ sets a to (sampled m (λ i. getD t₃ i nan)) → b ≡ twoAt f q from other to m k a
-piece-two f q f' q' from other to m k a t₀ {t₁} {t₂} {t₃} hf hz ht h₀ same-f same-q e₁ e₂ e₃ e₄ =
-    let n₁ : length t₁ ≡ length t₀ = ap length e₁ ∙ length-mixed (λ k x y. x) 0 (midOf to (to + m - to) a) t₀ (length (midOf to (to + m - to) a)) in
-    let n₂ : length t₂ ≡ length t₁ = ap length e₂ ∙ length-mixed f' k (midOf from (from + m - from) a) t₁ (length (midOf from (from + m - from) a)) in
+piece-two f q f' q' from other to m k a t₀ hf hz ht h₀ same-f same-q e₁ e₂ e₃ e₄ =
     samples-stored (λ i. q (k + i) (getD a (other + i) nan) (f (k + i) (getD a (from + i) nan) (getD a (to + i) nan))) a to m e₄
-    (λ i l. part-mixed q q' k other m a t₂ hz (omega arith) same-q e₃ i l
-    ∙ ap (λ (v : Float). q (k + i) (getD a (other + i) nan) v)
-    (part-mixed f f' k from m a t₁ hf (omega arith) same-f e₂ i l
-    ∙ ap (λ (v : Float). f (k + i) (getD a (from + i) nan) v) (part-mixed (λ k x y. x) (λ k x y. x) 0 to m a t₀ ht h₀ (λ i l x y. refl) e₁ i l)))
+    (two-mixed f q f' q' from other to m k a t₀ hf hz ht h₀ same-f same-q e₁ e₂ e₃)
+
+-- the same two sources into a second part, `next`: its local is made before the first part is stored, which changes none of what it is made of
+pub piece-four : (f q g h : ℕ → Float → Float → Float) (from other to next m k : ℕ) (a t₀ : List Float) {b u₁ u₂ u₃ c : List Float}
+    → from + m ≤ length a → other + m ≤ length a → next + m ≤ length a → m ≤ length t₀
+    → Apart from to m → Apart other to m → Apart next to m → b ≡ twoAt f q from other to m k a
+    → u₁ ≡ mixedInto (λ k x y. x) 0 (length (midOf next (next + m - next) a)) (midOf next (next + m - next) a) t₀
+    → u₂ ≡ mixedInto g k (length (midOf from (from + m - from) a)) (midOf from (from + m - from) a) u₁
+    → u₃ ≡ mixedInto h k (length (midOf other (other + m - other) a)) (midOf other (other + m - other) a) u₂
+    → c ≡ sets b next (sampled m (λ i. getD u₃ i nan)) → c ≡ twoAt g h from other next m k (twoAt f q from other to m k a)
+piece-four f q g h from other to next m k a t₀ {b} {u₁} {u₂} {u₃} {c} hf hz hn h₀ of oz on e e₁ e₂ e₃ e₄ =
+    let F : ℕ → Float = λ i. q (k + i) (getD a (other + i) nan) (f (k + i) (getD a (from + i) nan) (getD a (to + i) nan)) in
+    let w : List Float = sets a to (sampled m F) in
+    samples-stored (λ i. h (k + i) (getD w (other + i) nan) (g (k + i) (getD w (from + i) nan) (getD w (next + i) nan))) w next m
+    (e₄ ∙ ap (λ (l : List Float). sets l next (sampled m (λ i. getD u₃ i nan))) e)
+    (λ i l. two-mixed g h g h from other next m k a t₀ hf hz hn h₀ (λ i l x y. refl) (λ i l x y. refl) e₁ e₂ e₃ i l
+    ∙ sym (ap (λ (v : Float). h (k + i) v (g (k + i) (getD w (from + i) nan) (getD w (next + i) nan))) (apart-kept F a to m other i m oz l (omega arith))
+    ∙ ap (λ (v : Float). h (k + i) (getD a (other + i) nan) (g (k + i) v (getD w (next + i) nan))) (apart-kept F a to m from i m of l (omega arith))
+    ∙ ap (λ (v : Float). h (k + i) (getD a (other + i) nan) (g (k + i) (getD a (from + i) nan) v)) (apart-kept F a to m next i m on l (omega arith))))
 
 -- a piece of two sources, from a new local on
 pub piece-new : (f q : ℕ → Float → Float → Float) (from other to m k : ℕ) (a : List Float) {t₁ t₂ b : List Float}
@@ -118,46 +150,3 @@ piece-new f q from other to m k a {t₁} {t₂} hf hz h₀ e₁ e₂ e₃ =
     ∙ ap (λ (v : Float). q (k + i) (getD a (other + i) nan) v)
     (part-mixed f f k from m a t₀ hf (omega arith) (λ i l x y. refl) e₁ i l
     ∙ ap (λ (v : Float). f (k + i) (getD a (from + i) nan) v) (getD-replicate wholePiece i silence nan (omega arith))))
-
--- a piece of two sources, after those before it, is one of the first source, by a function that has the samples of the second
-pub two-piece : (p q : ℕ → Float → Float → Float) (block s z d : ℕ) (a : List Float) → (z ≡ d → ⊥) → (n m : ℕ) {b c : List Float} → n + m ≤ block
-    → b ≡ sets a (d * block) (sampled n (λ k. q k (sample block a z k) (p k (sample block a s k) (sample block a d k))))
-    → c ≡ twoAt p q (s * block + n) (z * block + n) (d * block + n) m n b
-    → c ≡ mixedAt (λ k x y. q k (sample block a z k) (p k x y)) (s * block + n) (d * block + n) m n b
-two-piece p q block s z d a o n m {b} h e g =
-    let F : ℕ → Float = λ k. q k (sample block a z k) (p k (sample block a s k) (sample block a d k)) in
-    samples-stored (λ i. q (n + i) (sample block a z (n + i)) (p (n + i) (getD b (s * block + n + i) nan) (getD b (d * block + n + i) nan))) b (d * block + n) m g
-    (λ i l. ap (λ (v : Float). q (n + i) v (p (n + i) (getD b (s * block + n + i) nan) (getD b (d * block + n + i) nan)))
-    (ap (λ (j : ℕ). getD b j nan) (add-assoc (z * block) n i)
-    ∙ ap (λ (w : List Float). sample block w z (n + i)) e
-    ∙ begun-other block d n F a z (n + i) o (omega arith) (omega arith)))
-
--- ---- the pieces of a buffer
-module _ (f : ℕ → Float → Float → Float) (block s d : ℕ) (a : List Float) (pair : Pair block s d a) where
-  abbrev made : ℕ → Float
-  made k = f k (sample block a s k) (sample block a d k)
-
-  pub piece-more : (n m : ℕ) {b c : List Float} → n + m ≤ block → b ≡ sets a (d * block) (sampled n made)
-      → c ≡ mixedAt f (s * block + n) (d * block + n) m n b → c ≡ sets a (d * block) (sampled (n + m) made)
-  piece-more n m {b} h e g =
-      run-more made a (d * block) (λ i. f (n + i) (getD b (s * block + n + i) nan) (getD b (d * block + n + i) nan)) n m e g
-      (λ i l. ap (λ (j : ℕ). f (n + i) (getD b j nan) (getD b (d * block + n + i) nan)) (add-assoc (s * block) n i)
-      ∙ ap (λ (j : ℕ). f (n + i) (getD b (s * block + (n + i)) nan) (getD b j nan)) (add-assoc (d * block) n i)
-      ∙ ap (λ (l : List Float). f (n + i) (sample block l s (n + i)) (sample block l d (n + i))) e
-      ∙ ap (λ (v : Float). f (n + i) v (sample block (sets a (d * block) (sampled n made)) d (n + i)))
-      (begun-other block d n made a s (n + i) (pair .apart) (omega arith) (omega arith))
-      ∙ ap (λ (v : Float). f (n + i) (sample block a s (n + i)) v) (begun-same block d n made a (n + i) (omega arith)))
-
-  pub pieces-start : a ≡ sets a (d * block) (sampled (wholePiece * 0) made)
-  pieces-start = none-stored made a (d * block)
-
-  pub whole-piece : (i : ℕ) {b c : List Float} → wholePiece * i + wholePiece ≤ block → b ≡ sets a (d * block) (sampled (wholePiece * i) made)
-      → c ≡ mixedAt f (s * block + wholePiece * i) (d * block + wholePiece * i) wholePiece (wholePiece * i) b → c ≡ sets a (d * block) (sampled (wholePiece * (i + 1)) made)
-  whole-piece i h e g = let w : wholePiece * (i + 1) ≡ wholePiece * i + wholePiece = omega arith in rw w (piece-more (wholePiece * i) wholePiece h e g)
-
-  pub all-pieces : (i : ℕ) {b : List Float} → wholePiece * i ≡ block → b ≡ sets a (d * block) (sampled (wholePiece * i) made) → b ≡ put block d made a
-  all-pieces i h e = rw h at e
-
-  pub last-piece : (i : ℕ) {b c : List Float} → wholePiece * i ≤ block → b ≡ sets a (d * block) (sampled (wholePiece * i) made)
-      → c ≡ mixedAt f (s * block + wholePiece * i) (d * block + wholePiece * i) (block - wholePiece * i) (wholePiece * i) b → c ≡ put block d made a
-  last-piece i h e g = let w : wholePiece * i + (block - wholePiece * i) ≡ block = omega arith in rw w at (piece-more (wholePiece * i) (block - wholePiece * i) (omega arith) e g)

@@ -26,12 +26,17 @@ apart-of block s d h =
       | no n ↦ inr (ends-before block (elim (decLt d s) [ yes l ↦ l | no m ↦ absurd (h (omega arith)) ]))
     ]
 
+-- n samples of buffer d written from place p on: a sample of another buffer
+pub other-kept : (block d p n : ℕ) (f : ℕ → Float) (area : List Float) (s k : ℕ) → d * block ≤ p → p + n ≤ d * block + block → (s ≡ d → ⊥) → k < block
+    → sample block (sets area p (sampled n f)) s k ≡ sample block area s k
+other-kept block d p n f area s k from to o h =
+    getD-sets (s * block + k) area p (sampled n f) nan
+    (⊎-elim (λ (u : s * block + block ≤ d * block). inl (omega arith)) (λ (u : d * block + block ≤ s * block). inr (omega (arith, length-sampled n f))) (apart-of block s d o))
+
 -- the start of buffer d written, n samples of it: a sample of another buffer, and one of d that is not written yet
 module _ (block d n : ℕ) (f : ℕ → Float) (area : List Float) where
   pub begun-other : (s k : ℕ) → (s ≡ d → ⊥) → k < block → n ≤ block → sample block (sets area (d * block) (sampled n f)) s k ≡ sample block area s k
-  begun-other s k o h l =
-      getD-sets (s * block + k) area (d * block) (sampled n f) nan
-      (⊎-elim (λ (p : s * block + block ≤ d * block). inl (omega arith)) (λ (p : d * block + block ≤ s * block). inr (omega (arith, length-sampled n f))) (apart-of block s d o))
+  begun-other s k o h l = other-kept block d (d * block) n f area s k (omega arith) (omega arith) o h
 
   pub begun-same : (k : ℕ) → n ≤ k → sample block (sets area (d * block) (sampled n f)) d k ≡ sample block area d k
   begun-same k h = getD-sets (d * block + k) area (d * block) (sampled n f) nan (inr (omega (arith, length-sampled n f)))

@@ -2,8 +2,8 @@
 use mathlib.Core.Path.{_≡_, refl, sym, ap, _∙_}
 use mathlib.Core.Bool.{true, false}
 use mathlib.Core.List.{List, [], _∷_}
-use Prim.Native.Nat.{ℕ, suc, _+_, _*_, _≤_, _<_}
-use native.Mathlib.Nat.{add-zero, add-suc, add-assoc}
+use Prim.Native.Nat.{ℕ, suc, _+_, _-_, _*_, _≤_, _<_}
+use native.Mathlib.Nat.{zero-add, add-zero, add-suc, add-assoc}
 use native.Mathlib.Numerals.{add-one}
 use native.Mathlib.Omega.{arith}
 use lib.ListN.{length, getD, drop, replicate, drop-of-length-le, getD-replicate}
@@ -14,7 +14,7 @@ use Rattle.mix.specs.Samples.{silence, sample, sampled, put}
 use Rattle.mix.specs.Mix.{silent, added, mixIn, clearBuffer, columns, Inside, NotIn, Row}
 use Rattle.mix.specs.Loops.{wholePiece, plusScaled, rowSample}
 use Rattle.mix.proofs.Stored.{run-more, none-stored}
-use Rattle.mix.proofs.Put.{begun-other, put-sample, put-other, put-same, put-put}
+use Rattle.mix.proofs.Put.{other-kept, put-sample, put-other, put-same, put-put}
 
 -- a gain at rest equal to 0, and any other
 module _ (g : Gain) (k : ℕ) (x y : Float) where
@@ -122,14 +122,35 @@ module _ (block : ℕ) (gain : ℕ → Gain) where
     pub row-start : a ≡ sets a (d * block) (sampled (wholePiece * 0) made)
     row-start = none-stored made a (d * block)
 
+    -- m samples from sample k on, after n from sample r on
+    row-run : (p r k : ℕ) (F : ℕ → Float) (n m : ℕ) {b c : List Float} → p ≡ d * block + r → k ≡ r + n → ((i : ℕ) → F i ≡ made (r + i)) → k + m ≤ block
+        → b ≡ sets a p (sampled n F) → c ≡ sets b (d * block + k) (sampled m (λ i. rowSample block gain v src b (k + i) silence))
+        → c ≡ sets a p (sampled (n + m) F)
+    row-run p r k F n m {b} hp hk same h e g =
+        let G : ℕ → Float = λ i. rowSample block gain v src b (k + i) silence in
+        let w : d * block + k ≡ p + n = omega arith in
+        run-more F a p G n m e (g ∙ ap (λ (q : ℕ). sets b q (sampled m G)) w)
+        (λ i l. let u : k + i ≡ r + (n + i) = omega arith in
+        row-same v src a b (k + i) silence
+        (λ j q. ap (λ (z : List Float). sample block z (getD src j 0) (k + i)) e ∙ other-kept block d p n F a (getD src j 0) (k + i) (omega arith) (omega arith) (λ o. row .apart j q (sym o)) (omega arith))
+        ∙ ap made u
+        ∙ sym (same (n + i)))
+
     pub row-piece : (n m : ℕ) {b c : List Float} → n + m ≤ block → b ≡ sets a (d * block) (sampled n made)
         → c ≡ sets b (d * block + n) (sampled m (λ i. rowSample block gain v src b (n + i) silence))
         → c ≡ sets a (d * block) (sampled (n + m) made)
-    row-piece n m {b} h e g =
-        run-more made a (d * block) (λ i. rowSample block gain v src b (n + i) silence) n m e g
-        (λ i l. ap (λ (z : List Float). rowSample block gain v src z (n + i) silence) e
-        ∙ row-same v src a (sets a (d * block) (sampled n made)) (n + i) silence
-        (λ j q. begun-other block d n made a (getD src j 0) (n + i) (λ w. row .apart j q (sym w)) (omega arith) (omega arith)))
+    row-piece n m h e g = row-run (d * block) 0 n made n m (omega arith) (omega arith) (λ i. ap made (sym (zero-add i))) h e g
+
+    -- the samples from sample r on: none, and one more
+    pub no-sample : (r : ℕ) → a ≡ sets a (d * block + r) (sampled (r - r) (λ i. made (r + i)))
+    no-sample r = let w : r - r ≡ 0 = omega arith in rw w (none-stored (λ i. made (r + i)) a (d * block + r))
+
+    pub row-sample : (r j : ℕ) {b c : List Float} → r ≤ j → j < block → b ≡ sets a (d * block + r) (sampled (j - r) (λ i. made (r + i)))
+        → c ≡ sets b (d * block + j) (sampled 1 (λ i. rowSample block gain v src b (j + i) silence))
+        → c ≡ sets a (d * block + r) (sampled (j + 1 - r) (λ i. made (r + i)))
+    row-sample r j l h e g =
+        let w : j + 1 - r ≡ j - r + 1 = omega arith in
+        rw w (row-run (d * block + r) r j (λ i. made (r + i)) (j - r) 1 refl (omega arith) (λ i. refl) (omega arith) e g)
 
     pub row-whole-piece : (i : ℕ) {b c : List Float} → wholePiece * i + wholePiece ≤ block → b ≡ sets a (d * block) (sampled (wholePiece * i) made)
         → c ≡ sets b (d * block + wholePiece * i) (sampled wholePiece (λ k. rowSample block gain v src b (wholePiece * i + k) silence))

@@ -53,12 +53,15 @@ module _ (F : ℕ → Float) (a : List Float) (to : ℕ) where
   unfolding sampled
   none-stored = refl
 
-  pub one-more : (n : ℕ) → set (sets a to (sampled n F)) (to + n) (F n) ≡ sets a to (sampled (n + 1) F)
+  one-more : (n : ℕ) → set (sets a to (sampled n F)) (to + n) (F n) ≡ sets a to (sampled (n + 1) F)
   unfolding sampled
   one-more n =
       rw add-one
       (sym (sets-append a to (sampled n F) (F n ∷ [])
       ∙ ap (λ (i : ℕ). set (sets a to (sampled n F)) (to + i) (F n)) (length-sampled n F)))
+
+  pub store-more : (n : ℕ) {b : List Float} {v : Float} → b ≡ sets a to (sampled n F) → v ≡ F n → set b (to + n) v ≡ sets a to (sampled (n + 1) F)
+  store-more n e p = rw (e, p) (one-more n)
 
   pub run-more : (G : ℕ → Float) (n m : ℕ) {b c : List Float} → b ≡ sets a to (sampled n F) → c ≡ sets b (to + n) (sampled m G)
       → ((i : ℕ) → i < m → G i ≡ F (n + i)) → c ≡ sets a to (sampled (n + m) F)
@@ -91,7 +94,7 @@ unchanged l p (suc n) =
 -- ---- a loop that stores F i at place i of y: a turn, and all turns
 pub turn : (F : ℕ → Float) (i : ℕ) (y₀ : List Float) {y : List Float} {v : Float} → y ≡ sets y₀ 0 (sampled i F) → v ≡ F i
     → set y i v ≡ sets y₀ 0 (sampled (i + 1) F)
-turn F i y₀ e p = rw (e, p) (rw zero-add at (one-more F y₀ 0 i))
+turn F i y₀ e p = rw zero-add at (store-more F y₀ 0 i e p)
 
 pub all-turns : (F : ℕ → Float) (i : ℕ) (y₀ : List Float) {y : List Float} → y ≡ sets y₀ 0 (sampled i F) → i ≡ length y₀ → y ≡ sampled (length y₀) F
 all-turns F i y₀ e h =

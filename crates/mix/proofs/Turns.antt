@@ -14,9 +14,9 @@ use Rattle.node.specs.declared.Gain.{Gain}
 use Rattle.node.specs.declared.Gain.the-variants.{Rest, Moving}
 use Rattle.node.specs.Nodes.{factor}
 use Rattle.mix.specs.Samples.{sample, sampled, put}
-use Rattle.mix.specs.Mix.{isZero, silent, weighted, sent, scale, sendIn, clearBuffer, gained, columns, rows, weighs, sends, cleared, appended, Inside}
-use Rattle.mix.specs.Loops.{plusScaled, plusWeighted}
-use Rattle.mix.proofs.Put.{put-sample, put-other, put-same, put-put, put-unchanged}
+use Rattle.mix.specs.Mix.{isZero, silent, weighted, sent, scale, sendIn, clearBuffer, gained, columns, rows, weighs, sends, cleared, appended, Inside, Buffers}
+use Rattle.mix.specs.Loops.{plusScaled, plusWeighted, twoIn, Four}
+use Rattle.mix.proofs.Put.{length-put, put-sample, put-other, put-same, put-put, put-unchanged}
 
 -- ---- Gain
 module _ (block : ℕ) (gain : ℕ → Gain) (src dst : List ℕ) where
@@ -117,26 +117,26 @@ module _ (block s z d : ℕ) (f q : ℕ → Float → Float → Float) (a : List
       (λ k l. ap (λ (v : Float). q k v (sample block b d k)) (put-other block d F a z k oz l) ∙ ap (λ (v : Float). q k (sample block a z k) v) (put-sample block d F a k l h))
       ∙ put-put block d F a (λ k. q k (sample block a z k) (F k)) h)
 
-module _ (block : ℕ) (g : Gain) (w x : Float) (s z d : ℕ) (a : List Float) where
-  pub two-at-rest : {t : Float} {b : List Float} → g ≡ Rest t → isZero w ≡ false → isZero x ≡ false → silent g ≡ false
+module _ (block : ℕ) (g : Gain) (w v : Float) (s z d : ℕ) (a : List Float) where
+  pub two-at-rest : {t : Float} {b : List Float} → g ≡ Rest t → isZero w ≡ false → isZero v ≡ false → silent g ≡ false
       → (s ≡ d → ⊥) → (z ≡ d → ⊥) → Inside block d a
-      → b ≡ put block d (λ k. plusScaled (Rest (mul binary32 x t)) k (sample block a z k) (plusScaled (Rest (mul binary32 w t)) k (sample block a s k) (sample block a d k))) a
-      → b ≡ sendIn block g x z d (sendIn block g w s d a)
-  two-at-rest {t} e hw hx q os oz h l =
+      → b ≡ put block d (λ k. plusScaled (Rest (mul binary32 v t)) k (sample block a z k) (plusScaled (Rest (mul binary32 w t)) k (sample block a s k) (sample block a d k))) a
+      → b ≡ sendIn block g v z d (sendIn block g w s d a)
+  two-at-rest {t} e hw hv q os oz h l =
       let f : ℕ → Float → Float → Float = plusScaled (Rest (mul binary32 w t)) in
       let c : List Float = put block d (λ k. f k (sample block a s k) (sample block a d k)) a in
-      sent-at-rest block g x z d c e hx q (l ∙ two-puts block s z d f (plusScaled (Rest (mul binary32 x t))) a os oz h)
-      ∙ ap (λ (u : List Float). sendIn block g x z d u) (sent-at-rest block g w s d a {b = c} e hw q refl)
+      sent-at-rest block g v z d c e hv q (l ∙ two-puts block s z d f (plusScaled (Rest (mul binary32 v t))) a os oz h)
+      ∙ ap (λ (u : List Float). sendIn block g v z d u) (sent-at-rest block g w s d a {b = c} e hw q refl)
 
-  pub two-ramping : {cur step t : Float} {left : ℕ} {b : List Float} → g ≡ Moving cur step t left → isZero w ≡ false → isZero x ≡ false
+  pub two-ramping : {cur step t : Float} {left : ℕ} {b : List Float} → g ≡ Moving cur step t left → isZero w ≡ false → isZero v ≡ false
       → (s ≡ d → ⊥) → (z ≡ d → ⊥) → Inside block d a
-      → b ≡ put block d (λ k. plusWeighted x (Moving cur step t left) k (sample block a z k) (plusWeighted w (Moving cur step t left) k (sample block a s k) (sample block a d k))) a
-      → b ≡ sendIn block g x z d (sendIn block g w s d a)
-  two-ramping {cur} {step} {t} {left} e hw hx os oz h l =
+      → b ≡ put block d (λ k. plusWeighted v (Moving cur step t left) k (sample block a z k) (plusWeighted w (Moving cur step t left) k (sample block a s k) (sample block a d k))) a
+      → b ≡ sendIn block g v z d (sendIn block g w s d a)
+  two-ramping {cur} {step} {t} {left} e hw hv os oz h l =
       let f : ℕ → Float → Float → Float = plusWeighted w (Moving cur step t left) in
       let c : List Float = put block d (λ k. f k (sample block a s k) (sample block a d k)) a in
-      sent-ramping block g x z d c e hx (l ∙ two-puts block s z d f (plusWeighted x (Moving cur step t left)) a os oz h)
-      ∙ ap (λ (u : List Float). sendIn block g x z d u) (sent-ramping block g w s d a {b = c} e hw refl)
+      sent-ramping block g v z d c e hv (l ∙ two-puts block s z d f (plusWeighted v (Moving cur step t left)) a os oz h)
+      ∙ ap (λ (u : List Float). sendIn block g v z d u) (sent-ramping block g w s d a {b = c} e hw refl)
 
 -- ---- its sources, and its rows
 module _ (block : ℕ) (g : Gain) (weights : List Float) (src : List ℕ) where
@@ -185,6 +185,36 @@ module _ (block : ℕ) (g : Gain) (weights : List Float) (src : List ℕ) where
       → sends block g weights (r * length src) src (drop r dst) a ≡ whole → a ≡ whole
   unfolding sends
   rows-sent dst r a h left = sym (ap (λ (l : List ℕ). sends block g weights (r * length src) src l a) (drop-of-length-le dst {i = r} h)) ∙ left
+
+-- two rows and two columns at rest, in one pass
+pub four-sent : (block : ℕ) (t : Float) (weights : List Float) (src dst : List ℕ) (a : List Float) {b : List Float} → Buffers block src dst a → Four src dst weights
+    → silent (Rest t) ≡ false
+    → b ≡ twoIn (plusScaled (Rest (mul binary32 (getD weights 2 nan) t))) (plusScaled (Rest (mul binary32 (getD weights 3 nan) t))) block (getD src 0 0) (getD src 1 0) (getD dst 1 0)
+    (twoIn (plusScaled (Rest (mul binary32 (getD weights 0 nan) t))) (plusScaled (Rest (mul binary32 (getD weights 1 nan) t))) block (getD src 0 0) (getD src 1 0) (getD dst 0 0) a)
+    → b ≡ sends block (Rest t) weights 0 src dst a
+four-sent block t weights src dst a {b} p f q e =
+    let s : ℕ = getD src 0 0 in
+    let z : ℕ = getD src 1 0 in
+    let n : length src ≡ 2 = f .columns in
+    let m : length dst ≡ 2 = f .rows in
+    let c : List Float = twoIn (plusScaled (Rest (mul binary32 (getD weights 0 nan) t))) (plusScaled (Rest (mul binary32 (getD weights 1 nan) t))) block s z (getD dst 0 0) a in
+    let l : length c ≡ length a = length-put block (getD dst 0 0) _ a in
+    let row : (i j : ℕ) → i < 2 → j < 2 → getD src i 0 ≡ getD dst j 0 → ⊥ = λ i j hi hj. p .apart i (omega arith) j (omega arith) in
+    let first : c ≡ weighs block (Rest t) weights 0 src (getD dst 0 0) a =
+    two-sent block (Rest t) weights src (getD dst 0 0) 0 a n
+    (two-at-rest block (Rest t) (getD weights 0 nan) (getD weights 1 nan) s z (getD dst 0 0) a refl (f .weighted 0 (omega arith)) (f .weighted 1 (omega arith)) q
+    (row 0 0 (omega arith) (omega arith)) (row 1 0 (omega arith) (omega arith)) (p .targets 0 (omega arith)) refl) in
+    let second : b ≡ weighs block (Rest t) weights 2 src (getD dst 1 0) c =
+    two-sent block (Rest t) weights src (getD dst 1 0) 2 c n
+    (two-at-rest block (Rest t) (getD weights 2 nan) (getD weights 3 nan) s z (getD dst 1 0) c refl (f .weighted 2 (omega arith)) (f .weighted 3 (omega arith)) q
+    (row 0 1 (omega arith) (omega arith)) (row 1 1 (omega arith) (omega arith)) (omega (arith, p .targets 1 (omega arith))) e) in
+    let v : 0 ≡ 0 * length src = omega arith in
+    let w : 2 ≡ 1 * length src = omega arith in
+    rows-sent block (Rest t) weights src dst 2 b (omega arith)
+    (row-sent block (Rest t) weights src dst 1 c {b = b} (omega arith)
+    (row-sent block (Rest t) weights src dst 0 a {b = c} (omega arith) (no-row-sent block (Rest t) weights src dst a)
+    (first ∙ ap (λ (k : ℕ). weighs block (Rest t) weights k src (getD dst 0 0) a) v))
+    (second ∙ ap (λ (k : ℕ). weighs block (Rest t) weights k src (getD dst 1 0) c) w))
 
 -- a Send whose gain is at rest at 0
 module _ (block : ℕ) (g : Gain) (weights : List Float) (h : silent g ≡ true) where

@@ -1,14 +1,17 @@
 -- What the contracts of the loops over pieces of a buffer cite. Definitions only.
-use Prim.Native.Nat.{ℕ, suc, _+_, _≤_}
+use Prim.Native.Nat.{ℕ, suc, _+_, _≤_, _<_}
+use mathlib.Core.Path.{_≡_}
+use mathlib.Core.Bool.{false}
 use mathlib.Core.List.{List, [], _∷_}
+use mathlib.Core.Logic.{_⊎_}
 use lib.ListN.{length, getD}
 use lib.Seq.{sets}
 use lib.Ieee.{Float, nan, binary32, add, mul}
 use Rattle.node.specs.declared.Gain.{Gain}
 use Rattle.node.specs.Sizes.{maxRamp}
 use Rattle.node.specs.Nodes.{factor}
-use Rattle.mix.specs.Samples.{sample, sampled}
-use Rattle.mix.specs.Mix.{added}
+use Rattle.mix.specs.Samples.{sample, sampled, put}
+use Rattle.mix.specs.Mix.{isZero, added}
 
 -- the samples of a whole piece
 abbrev pub wholePiece : ℕ
@@ -26,6 +29,10 @@ plusWeighted w g k x y = add binary32 y (mul binary32 (mul binary32 x w) (factor
 unfoldable pub rowSample : ℕ → (ℕ → Gain) → ℕ → List ℕ → List Float → ℕ → Float → Float
 rowSample block gain v [] area k y = y
 rowSample block gain v (s ∷ src) area k y = rowSample block gain (suc v) src area k (added (gain v) k (sample block area s k) y)
+
+-- ---- a buffer d, each sample from those of two sources, s and z, one after the other, and its own
+abbrev pub twoIn : (ℕ → Float → Float → Float) → (ℕ → Float → Float → Float) → ℕ → ℕ → ℕ → ℕ → List Float → List Float
+twoIn f q block s z d area = put block d (λ k. q k (sample block area z k) (f k (sample block area s k) (sample block area d k))) area
 
 -- ---- a piece: m samples, from sample k on
 
@@ -46,3 +53,15 @@ pub record Piece (from to m k : ℕ) (area : List Float) : Type 0 where
   pub target : to + m ≤ length area
   pub short : m ≤ wholePiece
   pub within : k + m ≤ maxRamp
+
+-- two parts of m samples that do not overlap
+abbrev pub Apart : ℕ → ℕ → ℕ → Type 0
+Apart from to m = (from + m ≤ to) ⊎ (to + m ≤ from)
+
+-- two columns and two rows of a Send, the rows different, with four weights that are not 0
+pub record Four (src dst : List ℕ) (weights : List Float) : Type 0 where
+  pub columns : length src ≡ 2
+  pub rows : length dst ≡ 2
+  pub enough : 4 ≤ length weights
+  pub differ : getD dst 1 0 ≡ getD dst 0 0 → ⊥
+  pub weighted : (i : ℕ) → i < 4 → isZero (getD weights i nan) ≡ false

@@ -1,5 +1,5 @@
 // Gain.
-use mix_samples::scale_into;
+use mix_pieces::scale_into;
 use node::Gain;
 ghost use mathlib.Core.Path.{_≡_};
 ghost use Prim.Native.Nat.{min};

@@ -7,7 +7,7 @@ use mix_samples::later;
 use mix_samples::store;
 use node::Gain;
 ghost use mathlib.Core.Path.{_≡_};
-ghost use Prim.Native.Nat.{ℕ, _+_, _*_, _≤_, _<_};
+ghost use Prim.Native.Nat.{ℕ, _+_, _-_, _*_, _≤_, _<_};
 ghost use lib.ListN.{length, getD};
 ghost use lib.Ieee.{nan};
 ghost use lib.Seq.{sets};
@@ -16,7 +16,7 @@ ghost use Rattle.node.specs.Nodes.{gainAt};
 ghost use Rattle.node.specs.declared.Gain.the-variants as gain;
 ghost use Rattle.mix.specs.Samples.{silence, sample, sampled, put};
 ghost use Rattle.mix.specs.Mix.{added, clearBuffer, columns, rows, Inside, AllInside, Pair, Row, Buffers, Values};
-ghost use Rattle.mix.specs.Loops.{plusScaled, rowSample, twoAt, Piece, wholePiece};
+ghost use Rattle.mix.specs.Loops.{plusScaled, rowSample, twoAt, Piece, Apart, wholePiece};
 
 // The m samples from p on added to the first m of t, by a gain from sample j on; a gain at rest equal to 0 is skipped. Requires at most a piece
 // of a block, within the area.
@@ -97,6 +97,28 @@ fn sum_piece(
     store(&t, area, d * block + j, m);
 }
 
+// Samples r to the end of the block of a row, one after another. Requires as `sum_row`, and a sample of the block.
+fn sum_last(
+    area: &mut [f32],
+    block: usize,
+    src: &[u32],
+    d: usize,
+    cur: &[f32],
+    step: &[f32],
+    target: &[f32],
+    left: u32,
+    v: usize,
+    r: usize,
+)
+    requires { ⌜ Values (v + length (now src)) (now cur) (now step) (now target) ⌝ }
+    requires { ⌜ Row block (now src) d (now area) × (r ≤ block) ⌝ }
+    ensures { λ _. ⌜ now (area .exit) ≡ sets (now (area .entry)) (d * block + r) (sampled (block - r) (λ i. rowSample block (gainAt (now (cur .entry)) (now (step .entry)) (now (target .entry)) left) v (now (src .entry)) (now (area .entry)) (r + i) silence)) ⌝ }
+{
+    for j in r..block {
+        sum_piece(area, block, src, d, cur, step, target, left, v, j, 1);
+    }
+}
+
 // Buffer d, all columns at each piece, by the gains from value v on. Requires sources and d within the area, d none of them, a value for
 // each source, and a block that is not too long.
 fn sum_row(
@@ -134,8 +156,7 @@ fn sum_row(
     if r == block {
         return;
     }
-    let m = block - r;
-    sum_piece(area, block, src, d, cur, step, target, left, v, r, m);
+    sum_last(area, block, src, d, cur, step, target, left, v, r);
 }
 
 // d = s × a + z × b, from +0 on, for m samples, from sample k on. Requires at most a piece of a block, with all parts within the area.
@@ -157,6 +178,26 @@ fn sum_two_piece(
     add_samples(&area[from..from + m], &mut u, k, Gain::Rest(a));
     add_samples(&area[other..other + m], &mut u, k, Gain::Rest(b));
     store(&u, area, to, m);
+}
+
+// The same, one sample after another in the area itself. Requires as `sum_two_piece`, and no source that overlaps the destination.
+fn sum_two_last(
+    area: &mut [f32],
+    from: usize,
+    other: usize,
+    to: usize,
+    m: usize,
+    k: usize,
+    a: f32,
+    b: f32,
+)
+    requires { ⌜ Piece from to m k (now area) × Apart from to m ⌝ }
+    requires { ⌜ Piece other to m k (now area) × Apart other to m ⌝ }
+    ensures { λ _. ⌜ now (area .exit) ≡ twoAt (λ k x y. plusScaled (gain.Rest a) k x silence) (plusScaled (gain.Rest b)) from other to m k (now (area .entry)) ⌝ }
+{
+    for i in 0..m {
+        area[to + i] = 0.0 + area[from + i] * a + area[other + i] * b;
+    }
 }
 
 // d = s × a + z × b, from +0 on, in one pass. Requires two buffers other than d, all within the area, and a block that is not too long.
@@ -185,7 +226,7 @@ fn sum_two(area: &mut [f32], block: usize, s: usize, z: usize, d: usize, a: f32,
     if r == block {
         return;
     }
-    sum_two_piece(area, from + r, other + r, to + r, block - r, r, a, b);
+    sum_two_last(area, from + r, other + r, to + r, block - r, r, a, b);
 }
 
 // One row: buffer d, by the gains from value v on; two columns at rest, neither at 0, go in one pass. Requires sources and d within the

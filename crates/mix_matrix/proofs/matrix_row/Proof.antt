@@ -7,10 +7,11 @@ use lib.ListN.{getD}
 use lib.Ieee.{nan, eq, ne}
 use borrow.Author.Tests.{eq-eqb}
 use borrow.Author.Needs.{needs}
+use Rattle.lists.proofs.Bools.{first-not, second-not}
 use Rattle.node.specs.declared.Gain.the-variants.{Rest}
 use Rattle.node.specs.Nodes.{gainAt}
 use Rattle.mix.specs.Mix.{isZero}
-use Rattle.mix.proofs.Given.{pair-of, first-not, second-not}
+use Rattle.mix.proofs.Given.{pair-of}
 use Rattle.mix.proofs.Rows.{two-summed}
 use Rattle.mix_matrix.proofs.matrix_row.Statement.{statement}
 use Rattle.mix_matrix.proofs.matrix_row.Tie as tie

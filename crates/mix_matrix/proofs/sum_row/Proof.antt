@@ -8,6 +8,7 @@ use borrow.Author.Needs.{needs}
 use Rattle.node.specs.Nodes.{gainAt}
 use Rattle.mix.specs.Samples.{silence, sampled}
 use Rattle.mix.specs.Loops.{rowSample, wholePiece}
+use Rattle.mix.proofs.Given.{row-kept}
 use Rattle.mix.proofs.Rows.{row-start, row-piece, row-whole-piece, row-done}
 use Rattle.mix_matrix.proofs.sum_row.Statement.{statement}
 use Rattle.mix_matrix.proofs.sum_row.Tie as tie
@@ -56,14 +57,8 @@ returns c =
     let a = c .before .before .before .before .before .before .before .before .args in
     let l = c .before .before .loop in row-done (a .block) (gainAt (a .cur .now) (a .step .now) (a .target .now) (a .left)) (a .v) (a .src .now) (a .d) (a .area .now) (c .before .before .before .before .before .before .before .before .pre .1) (wholePiece * l .i) (omega arith) (l .inv .2)
 
-sub-m : tie.Need-sub-m Inv-loop μ-loop
-sub-m c = search needs
-
-sum-piece-requires-2 : tie.Need-sum-piece-requires-2 Inv-loop μ-loop
-sum-piece-requires-2 c κs =
-    let l = c .before .before .before .loop in
-    let p = c .before .before .before .before .before .before .before .before .before .pre in
-    (p .0, ((omega arith, search needs, omega arith, omega (arith, p .1 .target)), λ j h. omega (arith, p .1 .sources j h)))
+sum-last-requires : tie.Need-sum-last-requires Inv-loop μ-loop
+sum-last-requires c κs = let p = c .before .before .before .before .before .before .before .before .before .pre in (p .0, (row-kept (c .before .before .before .loop .inv .1) (p .1), omega arith))
 
 same-length-2 : tie.Need-same-length-2 Inv-loop μ-loop
 same-length-2 c = search needs
@@ -76,7 +71,7 @@ returns-2 c =
     let n = a .block / wholePiece in
     let e : l .i ≡ n = omega arith in
     row-done (a .block) (gainAt (a .cur .now) (a .step .now) (a .target .now) (a .left)) (a .v) (a .src .now) (a .d) (a .area .now) p (wholePiece * n + (a .block - wholePiece * n)) (omega arith)
-    (row-piece (a .block) (gainAt (a .cur .now) (a .step .now) (a .target .now) (a .left)) (a .v) (a .src .now) (a .d) (a .area .now) p (wholePiece * n) (a .block - wholePiece * n) (omega arith) (rw e at (l .inv .2)) (c .before .before .sum-piece2 .ensures))
+    (row-piece (a .block) (gainAt (a .cur .now) (a .step .now) (a .target .now) (a .left)) (a .v) (a .src .now) (a .d) (a .area .now) p (wholePiece * n) (a .block - wholePiece * n) (omega arith) (rw e at (l .inv .2)) (c .before .before .sum-last .ensures))
 
 pub sum-row-spec : {M : Type 1} → statement M
 sum-row-spec =
@@ -93,7 +88,6 @@ sum-row-spec =
     mul-r
     same-length
     returns
-    sub-m
-    sum-piece-requires-2
+    sum-last-requires
     same-length-2
     returns-2)

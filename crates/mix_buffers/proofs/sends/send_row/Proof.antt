@@ -5,17 +5,18 @@ use native.Mathlib.Omega.{arith}
 use lib.ListN.{length, getD, drop}
 use lib.Ieee.{nan, eq, ne}
 use borrow.Author.Needs.{needs}
+use Rattle.lists.proofs.Bools.{first-not, second-not}
 use Rattle.mix.specs.Mix.{isZero, weighs}
-use Rattle.mix.proofs.Given.{pair-of, first-not, second-not}
+use Rattle.mix.proofs.Given.{pair-of}
 use Rattle.mix.proofs.Turns.{no-source, source-sent, sources-sent, two-sent}
 use Rattle.mix_buffers.proofs.sends.send_row.Statement.{statement}
 use Rattle.mix_buffers.proofs.sends.send_row.Tie as tie
 
 abbrev Inv-loop : tie.InvT-loop
-Inv-loop area₀ block src d weights v g c₀ c-end area c = (c ≤ c-end) × (length area ≡ length area₀) × (weighs block g weights (v + c) (drop c src) d area ≡ weighs block g weights v src d area₀)
+Inv-loop area₀ block src d weights at g c₀ c-end area c = (c ≤ c-end) × (length area ≡ length area₀) × (weighs block g weights (at + c) (drop c src) d area ≡ weighs block g weights at src d area₀)
 
 abbrev μ-loop : tie.MeasureT-loop
-μ-loop area₀ block src d weights v g c₀ c-end area c = c-end - c
+μ-loop area₀ block src d weights at g c₀ c-end area c = c-end - c
 
 mul-w : tie.Need-mul-w Inv-loop μ-loop
 mul-w c = search needs
@@ -23,14 +24,14 @@ mul-w c = search needs
 shared-slice-read-w : tie.Need-shared-slice-read-w Inv-loop μ-loop
 shared-slice-read-w c = search needs
 
-add-x : tie.Need-add-x Inv-loop μ-loop
-add-x c = search needs
+add-v : tie.Need-add-v Inv-loop μ-loop
+add-v c = search needs
 
-mul-x : tie.Need-mul-x Inv-loop μ-loop
-mul-x c = search needs
+mul-v : tie.Need-mul-v Inv-loop μ-loop
+mul-v c = search needs
 
-shared-slice-read-x : tie.Need-shared-slice-read-x Inv-loop μ-loop
-shared-slice-read-x c = search needs
+shared-slice-read-v : tie.Need-shared-slice-read-v Inv-loop μ-loop
+shared-slice-read-v c = search needs
 
 shared-slice-read-send-two : tie.Need-shared-slice-read-send-two Inv-loop μ-loop
 shared-slice-read-send-two c = search needs
@@ -51,7 +52,7 @@ send-two-requires c κs =
     let p = c .before .before .before .before .before .before .before .before .before .before .pre in
     let n = c .before .before .before .before .before .before .if1 .taken in
     let b = c .before .before .before .if2 .taken in
-    (pair-of refl (p .0) 0 (omega arith), (pair-of refl (p .0) 1 (omega arith), (first-not (isZero (getD (a .weights .now) (a .v) nan)) (isZero (getD (a .weights .now) (a .v + 1) nan)) b, second-not (isZero (getD (a .weights .now) (a .v) nan)) (isZero (getD (a .weights .now) (a .v + 1) nan)) b, p .1 .1)))
+    (pair-of refl (p .0) 0 (omega arith), (pair-of refl (p .0) 1 (omega arith), (first-not (isZero (getD (a .weights .now) (a .at) nan)) (isZero (getD (a .weights .now) (a .at + 1) nan)) b, second-not (isZero (getD (a .weights .now) (a .at) nan)) (isZero (getD (a .weights .now) (a .at + 1) nan)) b, p .1 .1)))
 
 same-length : tie.Need-same-length Inv-loop μ-loop
 same-length c = search needs
@@ -59,10 +60,10 @@ same-length c = search needs
 returns : tie.Need-returns Inv-loop μ-loop
 returns c =
     let a = c .before .before .before .before .before .before .before .before .before .before .before .before .before .args in
-    two-sent (a .block) (a .g) (a .weights .now) (a .src .now) (a .d) (a .v) (a .area .now) (c .before .before .before .before .before .before .before .before .before .if1 .taken) (c .before .before .send-two .ensures)
+    two-sent (a .block) (a .g) (a .weights .now) (a .src .now) (a .d) (a .at) (a .area .now) (c .before .before .before .before .before .before .before .before .before .if1 .taken) (c .before .before .send-two .ensures)
 
 loop-holds : tie.Need-loop-holds Inv-loop μ-loop
-loop-holds c = let a = c .before .before .before .before .args in (search needs, refl, no-source (a .block) (a .g) (a .weights .now) (a .src .now) (a .d) (a .v) (a .area .now))
+loop-holds c = let a = c .before .before .before .before .args in (search needs, refl, no-source (a .block) (a .g) (a .weights .now) (a .src .now) (a .d) (a .at) (a .area .now))
 
 mul-s : tie.Need-mul-s Inv-loop μ-loop
 mul-s c = search needs
@@ -97,7 +98,7 @@ loop-again c =
     let l = c .before .before .before .before .before .before .before .loop in (
       search needs,
       search needs,
-      source-sent (a .block) (a .g) (a .weights .now) (a .src .now) (a .d) (a .v) (l .c) (l .area) (search needs) (l .inv .2) (c .before .before .send-into .ensures),
+      source-sent (a .block) (a .g) (a .weights .now) (a .src .now) (a .d) (a .at) (l .c) (l .area) (search needs) (l .inv .2) (c .before .before .send-into .ensures),
     )
 
 same-length-2 : tie.Need-same-length-2 Inv-loop μ-loop
@@ -106,7 +107,7 @@ same-length-2 c = omega arith
 returns-2 : tie.Need-returns-2 Inv-loop μ-loop
 returns-2 c =
     let a = c .before .before .before .before .before .before .args in
-    let l = c .before .loop in sources-sent (a .block) (a .g) (a .weights .now) (a .src .now) (a .d) (a .v) (l .c) (l .area) (omega arith) (l .inv .2)
+    let l = c .before .loop in sources-sent (a .block) (a .g) (a .weights .now) (a .src .now) (a .d) (a .at) (l .c) (l .area) (omega arith) (l .inv .2)
 
 pub send-row-spec : {M : Type 1} → statement M
 send-row-spec =
@@ -116,9 +117,9 @@ send-row-spec =
     μ-loop
     mul-w
     shared-slice-read-w
-    add-x
-    mul-x
-    shared-slice-read-x
+    add-v
+    mul-v
+    shared-slice-read-v
     shared-slice-read-send-two
     cast-send-two
     shared-slice-read-send-two-2

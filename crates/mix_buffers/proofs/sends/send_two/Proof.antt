@@ -23,7 +23,7 @@ returns : tie.Need-returns
 returns c =
     let a = c .before .before .before .before .before .before .before .before .args in
     let p = c .before .before .before .before .before .before .before .before .pre in
-    two-at-rest (a .block) (a .g) (a .w) (a .x) (a .s) (a .z) (a .d) (a .area .now) (c .before .before .before .before .before .g .given .1) (p .1 .1 .0) (p .1 .1 .1) (p .1 .1 .2) (p .0 .apart) (p .1 .0 .apart) (p .0 .target) (c .before .before .add-two .ensures)
+    two-at-rest (a .block) (a .g) (a .w) (a .v) (a .s) (a .z) (a .d) (a .area .now) (c .before .before .before .before .before .g .given .1) (p .1 .1 .0) (p .1 .1 .1) (p .1 .1 .2) (p .0 .apart) (p .1 .0 .apart) (p .0 .target) (c .before .before .add-two .ensures)
 
 same-length-2 : tie.Need-same-length-2
 same-length-2 c = search needs
@@ -32,7 +32,7 @@ returns-2 : tie.Need-returns-2
 returns-2 c =
     let a = c .before .before .before .before .before .before .before .before .args in
     let p = c .before .before .before .before .before .before .before .before .pre in
-    two-ramping (a .block) (a .g) (a .w) (a .x) (a .s) (a .z) (a .d) (a .area .now) (c .before .before .before .before .before .g2 .given .1) (p .1 .1 .0) (p .1 .1 .1) (p .0 .apart) (p .1 .0 .apart) (p .0 .target) (c .before .before .weigh-two .ensures)
+    two-ramping (a .block) (a .g) (a .w) (a .v) (a .s) (a .z) (a .d) (a .area .now) (c .before .before .before .before .before .g2 .given .1) (p .1 .1 .0) (p .1 .1 .1) (p .0 .apart) (p .1 .0 .apart) (p .0 .target) (c .before .before .weigh-two .ensures)
 
 pub send-two-spec : {M : Type 1} → statement M
 send-two-spec =
