@@ -17,7 +17,7 @@ use Rattle.node.specs.Areas.{floatsOf, wordsOf}
 use Rattle.node.proofs.Kept.{full-new}
 use Rattle.node.proofs.Areas.{length-floats}
 use Rattle.plan.specs.declared.Plan.{Plan}
-use Rattle.plan.specs.Limits.{Limits}
+use Rattle.plan.specs.declared.Limits.{Limits}
 use Rattle.builder.specs.Growth.{buffersGrowth, coefficientsGrowth, nodeGrowth, stepGrowth}
 use Rattle.builder.specs.Calls.{numbersFrom, recordLength, finishAnswer, finishArea}
 use Rattle.builder.specs.Built.{Call, buffers, coefficients, node, step, State, answer, after, KeptPart, Kept}

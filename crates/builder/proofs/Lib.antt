@@ -4,6 +4,8 @@
 pub mod Numbers
 -- the tests 5 and 2 of each call, without the counts that it does not use
 pub mod Uses
+-- the tests of the limits, in front of a call's others
+pub mod Limits
 -- what an accepted call says of the counts and the areas
 pub mod Fits
 -- what a call hands back and leaves, by its answer

@@ -13,8 +13,9 @@ use Rattle.refusal.proofs.Laws.{outcome-accepted, refused-keeps}
 use Rattle.node.specs.Nodes.{silence, newNode}
 use Rattle.node.specs.Areas.{storedFloats, storedWords}
 use Rattle.plan.specs.declared.Plan.{Plan}
-use Rattle.plan.specs.Limits.{Limits}
-use Rattle.builder.specs.Growth.{Growth, grown}
+use Rattle.plan.specs.declared.Limits.{Limits}
+use Rattle.builder.specs.Growth.{grown}
+use Rattle.builder.specs.declared.Growth.{Growth}
 use Rattle.builder.specs.Calls.{planAfter, numbersFrom, buffersAnswer, buffersIndices, coefficientsAnswer, coefficientsArea, nodeAnswer, nodeFloatsArea, nodeWordsArea, recordLength, stepAnswer, stepArea, finishAnswer, finishArea}
 
 module _ {answer : Answer} (p : Plan) (g : Growth) where

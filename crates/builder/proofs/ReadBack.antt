@@ -23,7 +23,7 @@ use Rattle.plan.specs.declared.Plan.{Plan}
 use Rattle.plan.specs.declared.Step.{Step}
 use Rattle.plan.specs.declared.Read.{Read}
 use Rattle.plan.specs.declared.Read.the-variants.{Found, Bad}
-use Rattle.plan.specs.Limits.{Limits}
+use Rattle.plan.specs.declared.Limits.{Limits}
 use Rattle.plan.specs.Words.{fields, readAt, decodedFrom, decoded}
 use Rattle.plan.specs.Records.{word}
 use Rattle.plan.proofs.Words.{patch-fields, gain-fields, matrix-fields, clear-fields, send-fields, output-fields, read-past, decoded-on, decoded-none, decoded-start}

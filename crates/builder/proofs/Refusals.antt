@@ -3,7 +3,7 @@ use mathlib.Core.Path.{_≡_}
 use Rattle.refusal.specs.declared.Refusal.{Refusal}
 use Rattle.refusal.specs.declared.Answer.the-variants.{Refused}
 use lib.ListN.{length}
-use Rattle.plan.specs.Limits.{Limits}
+use Rattle.plan.specs.declared.Limits.{Limits}
 use Rattle.builder.specs.Growth.{buffersGrowth, coefficientsGrowth, nodeGrowth, stepGrowth}
 use Rattle.builder.specs.Calls.{recordLength}
 use Rattle.builder.specs.Built.{Call, buffers, coefficients, node, step, State, answer, after}

@@ -14,7 +14,7 @@ use Rattle.plan.specs.declared.Plan.{Plan}
 use Rattle.plan.specs.declared.Step.{Step}
 use Rattle.plan.specs.declared.Read.{Read}
 use Rattle.plan.specs.declared.Read.the-variants.{Found, Bad}
-use Rattle.plan.specs.Limits.{Limits}
+use Rattle.plan.specs.declared.Limits.{Limits}
 use Rattle.plan.specs.Words.{readAt}
 use Rattle.builder.specs.Growth.{buffersGrowth, coefficientsGrowth, nodeGrowth, stepGrowth}
 use Rattle.builder.specs.Calls.{planAfter, buffersAnswer, numbersFrom, buffersIndices, coefficientsAnswer, coefficientsArea, nodeAnswer, nodeFloatsArea, nodeWordsArea, recordLength, stepAnswer, stepArea}

@@ -2,12 +2,12 @@
 -- The limits are a parameter of the tests. Definitions only.
 use Prim.Native.Nat.{ℕ, zero, suc, _+_, _*_, min}
 use mathlib.Core.Bool.{Bool, true, false}
-use mathlib.Core.List.{List, [], _∷_}
+use mathlib.Core.List.{List, [], _∷_, _++_}
 use lib.Dec.{ltb, leb}
 use lib.ListN.{length, getD, take, replicate}
 use lib.Seq.{sets}
 use lib.Ieee.{Float}
-use Rattle.refusal.specs.Numbers.{blockLength, shortArea, unreadableStep, overLimit, tooManyValues, idTaken, longRamp}
+use Rattle.refusal.specs.Numbers.{blockLength, shortArea, unreadableStep, tooManyValues, idTaken, longRamp}
 use Rattle.refusal.specs.Tests.{Test, test, first, outcome, areaAfter}
 use Rattle.refusal.specs.declared.Answer.{Answer}
 use Rattle.refusal.specs.declared.Answer.the-variants.{Accepted}
@@ -18,11 +18,13 @@ use Rattle.plan.specs.declared.Plan.{Plan}
 use Rattle.plan.specs.declared.Span.{Span}
 use Rattle.plan.specs.declared.Read.{Read}
 use Rattle.plan.specs.declared.Read.the-variants.{Found, Bad}
-use Rattle.plan.specs.Limits.{Limits, badBlock}
+use Rattle.plan.specs.declared.Limits.{Limits}
+use Rattle.plan.specs.Limits.{badBlock}
 use Rattle.plan.specs.Words.{fields, span, readAt}
 use Rattle.plan.specs.Areas.{shorter}
 use Rattle.plan.specs.Check.{idAmong, tooWide}
-use Rattle.builder.specs.Growth.{Growth, Lengths, grown, growsOver, growsPast, over, add, buffersGrowth, coefficientsGrowth, nodeGrowth, stepGrowth}
+use Rattle.builder.specs.Growth.{Lengths, grown, limitTests, growthTests, buffersGrowth, coefficientsGrowth, nodeGrowth, stepGrowth, finishGrowth}
+use Rattle.builder.specs.declared.Growth.{Growth}
 use Rattle.builder.specs.declared.SpanAnswer.{SpanAnswer}
 use Rattle.builder.specs.declared.SpanAnswer.the-variants as spanned
 use Rattle.builder.specs.declared.NumberAnswer.{NumberAnswer}
@@ -50,7 +52,7 @@ abbrev pub lentIndices : ℕ → Lengths
 lentIndices n = record { indices = n; coefficients = 0; nodeFloats = 0; nodeWords = 0; stepWords = 0 }
 
 abbrev pub buffersTests : Limits → Plan → ℕ → ℕ → List Test
-buffersTests l p n len = test overLimit (growsOver l p (buffersGrowth n)) ∷ test shortArea (growsPast p (buffersGrowth n) (lentIndices len)) ∷ []
+buffersTests l p n len = growthTests l p (buffersGrowth n) (lentIndices len) []
 
 unfoldable pub buffersAnswer : Limits → Plan → ℕ → ℕ → Answer
 buffersAnswer l p n len = first (buffersTests l p n len) Accepted
@@ -89,8 +91,7 @@ abbrev pub lentCoefficients : ℕ → Lengths
 lentCoefficients n = record { indices = 0; coefficients = n; nodeFloats = 0; nodeWords = 0; stepWords = 0 }
 
 abbrev pub coefficientsTests : Limits → Plan → ℕ → ℕ → List Test
-coefficientsTests l p n len =
-    test overLimit (growsOver l p (coefficientsGrowth n)) ∷ test shortArea (growsPast p (coefficientsGrowth n) (lentCoefficients len)) ∷ []
+coefficientsTests l p n len = growthTests l p (coefficientsGrowth n) (lentCoefficients len) []
 
 unfoldable pub coefficientsAnswer : Limits → Plan → ℕ → ℕ → Answer
 coefficientsAnswer l p n len = first (coefficientsTests l p n len) Accepted
@@ -108,15 +109,13 @@ coefficientsSpan l p n len = outcome (coefficientsAnswer l p n len) (spanned.Mad
 abbrev pub lentNodes : ℕ → ℕ → Lengths
 lentNodes floats words = record { indices = 0; coefficients = 0; nodeFloats = floats; nodeWords = words; stepWords = 0 }
 
--- n values
+-- its own, of n values
+abbrev pub nodeOwn : Plan → ℕ → ℕ → ℕ → List ℕ → List Test
+nodeOwn p id n ramp words =
+    test tooManyValues (ltb maxValues n) ∷ test idTaken (idAmong words (p .nodes) id) ∷ test longRamp (rampTooLong ramp) ∷ []
+
 abbrev pub nodeTests : Limits → Plan → ℕ → ℕ → ℕ → ℕ → List ℕ → List Test
-nodeTests l p id n ramp floats words =
-    test overLimit (growsOver l p nodeGrowth)
-    ∷ test shortArea (growsPast p nodeGrowth (lentNodes floats (length words)))
-    ∷ test tooManyValues (ltb maxValues n)
-    ∷ test idTaken (idAmong words (p .nodes) id)
-    ∷ test longRamp (rampTooLong ramp)
-    ∷ []
+nodeTests l p id n ramp floats words = growthTests l p nodeGrowth (lentNodes floats (length words)) (nodeOwn p id n ramp words)
 
 unfoldable pub nodeAnswer : Limits → Plan → ℕ → ℕ → ℕ → ℕ → List ℕ → Answer
 nodeAnswer l p id n ramp floats words = first (nodeTests l p id n ramp floats words) Accepted
@@ -154,13 +153,12 @@ abbrev pub wide : Read → Bool
 wide (Found s next) = tooWide s
 wide Bad = false
 
+-- its own
+abbrev pub stepOwn : List ℕ → List Test
+stepOwn w = test unreadableStep (unreadable (readAt w 0)) ∷ test tooManyValues (wide (readAt w 0)) ∷ []
+
 abbrev pub stepTests : Limits → Plan → List ℕ → ℕ → List Test
-stepTests l p w len =
-    test overLimit (growsOver l p (stepGrowth (recordLength w)))
-    ∷ test shortArea (growsPast p (stepGrowth (recordLength w)) (lentSteps len))
-    ∷ test unreadableStep (unreadable (readAt w 0))
-    ∷ test tooManyValues (wide (readAt w 0))
-    ∷ []
+stepTests l p w len = growthTests l p (stepGrowth (recordLength w)) (lentSteps len) (stepOwn w)
 
 unfoldable pub stepAnswer : Limits → Plan → List ℕ → ℕ → Answer
 unfolding readAt tooWide
@@ -174,10 +172,7 @@ stepArea l p w steps = areaAfter (stepAnswer l p w (length steps)) (sets steps (
 
 abbrev pub finishTests : Limits → Plan → ℕ → List Test
 finishTests l p len =
-    test blockLength (badBlock (p .block))
-    ∷ test overLimit (over (l .buffers) (p .buffers) (add 0))
-    ∷ test shortArea (shorter len (p .buffers) (p .block))
-    ∷ []
+    test blockLength (badBlock (p .block)) ∷ limitTests l p finishGrowth ++ test shortArea (shorter len (p .buffers) (p .block)) ∷ []
 
 unfoldable pub finishAnswer : Limits → Plan → ℕ → Answer
 finishAnswer l p len = first (finishTests l p len) Accepted

@@ -1,28 +1,21 @@
 -- How much a builder call adds to a plan, and the tests 5 and 2 that follow from it. Definitions only.
 use Prim.Native.Nat.{ℕ, _+_}
 use mathlib.Core.Bool.{Bool, false, _||_}
+use mathlib.Core.List.{List, [], _∷_, _++_}
 use lib.Dec.{ltb}
+use Rattle.refusal.specs.Numbers.{shortArea, overLimit}
+use Rattle.refusal.specs.Tests.{Test, test}
 use Rattle.node.specs.Sizes.{nodeFloats, nodeWords}
 use Rattle.plan.specs.declared.Plan.{Plan}
-use Rattle.plan.specs.Limits.{Limits}
+use Rattle.plan.specs.declared.Limits.{Limits}
 use Rattle.plan.specs.Areas.{shorter}
-
--- A call leaves a count alone, and then does not test it, or adds n to it.
-pub data Change : Type 0 where
-  same : Change
-  add : ℕ → Change
+use Rattle.builder.specs.declared.Change.{Change}
+use Rattle.builder.specs.declared.Change.the-variants.{Same, Add}
+use Rattle.builder.specs.declared.Growth.{Growth}
 
 abbrev pub after : ℕ → Change → ℕ
-after count same = count
-after count (add n) = count + n
-
-pub record Growth : Type 0 where
-  pub buffers : Change
-  pub indices : Change
-  pub coefficients : Change
-  pub nodes : Change
-  pub steps : Change
-  pub words : Change
+after count Same = count
+after count (Add n) = count + n
 
 abbrev pub grown : Plan → Growth → Plan
 grown p g =
@@ -39,8 +32,8 @@ grown p g =
 -- ---- number 5: a count above its limit
 
 abbrev pub over : ℕ → ℕ → Change → Bool
-over limit count same = false
-over limit count (add n) = ltb limit (count + n)
+over limit count Same = false
+over limit count (Add n) = ltb limit (count + n)
 
 abbrev pub growsOver : Limits → Plan → Growth → Bool
 growsOver l p g =
@@ -49,6 +42,10 @@ growsOver l p g =
     || over (l .coefficients) (p .coefficients) (g .coefficients)
     || over (l .nodes) (p .nodes) (g .nodes)
     || over (l .steps) (p .steps) (g .steps)
+
+-- the tests of the limits, in front of a call's others
+abbrev pub limitTests : Limits → Plan → Growth → List Test
+limitTests l p g = test overLimit (growsOver l p g) ∷ []
 
 -- ---- number 2: an area shorter than the call needs. A call is lent the areas of the counts that it adds to, but for the buffers, which
 -- `finish` is lent.
@@ -62,8 +59,8 @@ pub record Lengths : Type 0 where
   pub stepWords : ℕ
 
 abbrev pub tooShort : ℕ → ℕ → Change → ℕ → Bool
-tooShort length count same each = false
-tooShort length count (add n) each = shorter length (count + n) each
+tooShort length count Same each = false
+tooShort length count (Add n) each = shorter length (count + n) each
 
 abbrev pub growsPast : Plan → Growth → Lengths → Bool
 growsPast p g l =
@@ -73,17 +70,25 @@ growsPast p g l =
     || tooShort (l .nodeWords) (p .nodes) (g .nodes) nodeWords
     || tooShort (l .stepWords) (p .words) (g .words) 1
 
+-- the tests of a call with this growth: 5, 2, and then its own
+abbrev pub growthTests : Limits → Plan → Growth → Lengths → List Test → List Test
+growthTests l p g lent own = limitTests l p g ++ test shortArea (growsPast p g lent) ∷ own
+
 -- ---- the growth of each call
 
 abbrev pub buffersGrowth : ℕ → Growth
-buffersGrowth n = record { buffers = add n; indices = add n; coefficients = same; nodes = same; steps = same; words = same }
+buffersGrowth n = record { buffers = Add n; indices = Add n; coefficients = Same; nodes = Same; steps = Same; words = Same }
 
 abbrev pub coefficientsGrowth : ℕ → Growth
-coefficientsGrowth n = record { buffers = same; indices = same; coefficients = add n; nodes = same; steps = same; words = same }
+coefficientsGrowth n = record { buffers = Same; indices = Same; coefficients = Add n; nodes = Same; steps = Same; words = Same }
 
 abbrev pub nodeGrowth : Growth
-nodeGrowth = record { buffers = same; indices = same; coefficients = same; nodes = add 1; steps = same; words = same }
+nodeGrowth = record { buffers = Same; indices = Same; coefficients = Same; nodes = Add 1; steps = Same; words = Same }
 
 -- n words
 abbrev pub stepGrowth : ℕ → Growth
-stepGrowth n = record { buffers = same; indices = same; coefficients = same; nodes = same; steps = add 1; words = add n }
+stepGrowth n = record { buffers = Same; indices = Same; coefficients = Same; nodes = Same; steps = Add 1; words = Add n }
+
+-- `finish` tests the buffers that there are
+abbrev pub finishGrowth : Growth
+finishGrowth = record { buffers = Add 0; indices = Same; coefficients = Same; nodes = Same; steps = Same; words = Same }

@@ -1,4 +1,4 @@
-// The answers of the builder calls, and what the calls are: their tests, what they write, what lists of them leave, and the laws of that. There is no
+// The answers of the builder calls, and what the calls are: what they add, their tests, what they write, what lists of them leave, and the laws of that. There is no
 // code here: crates `builder_answers` and `builder_calls` have it.
 use plan::Span;
 use refusal::Refusal;
@@ -13,4 +13,20 @@ pub enum SpanAnswer {
 pub enum NumberAnswer {
     Number(u32),
     Refused(Refusal),
+}
+
+// A call leaves a count of the plan alone, and then does not test it, or adds to it.
+pub enum Change {
+    Same,
+    Add(usize),
+}
+
+// What a call adds to each count of the plan.
+pub struct Growth {
+    pub buffers: Change,
+    pub indices: Change,
+    pub coefficients: Change,
+    pub nodes: Change,
+    pub steps: Change,
+    pub words: Change,
 }

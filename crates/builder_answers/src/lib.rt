@@ -1,25 +1,23 @@
-// The tests of the builder calls but `buffer`, in their order. None writes.
+// The tests of the builder calls but `buffer`, in their order, by limits that come with the call. None writes.
 // All of it is for the crates above and not the interface: a function that has a `requires` says in its comment what it takes.
+mod limits;
+
+use limits::buffers_growth;
+use limits::coefficients_growth;
+use limits::finish_growth;
+use limits::limits_answer;
+use limits::node_growth;
+use limits::past;
+use limits::step_growth;
 use node::Node;
+use plan::Limits;
 use plan::Plan;
 use plan::Read;
 use refusal::Answer;
 use refusal::Refusal;
 ghost use mathlib.Core.Path.{_≡_};
 ghost use Prim.Native.Nat.{_≤_};
-ghost use Rattle.plan.specs.Limits.{unitLimits};
-ghost use Rattle.builder.specs.Growth.{over, add};
 ghost use Rattle.builder.specs.Calls.{newAnswer, buffersAnswer, coefficientsAnswer, nodeAnswer, recordLength, stepAnswer, finishAnswer};
-
-// A count that n more bring above a limit, or an area of `limit` places past its end; worked out without overflow.
-fn over(limit: usize, count: usize, n: usize) -> bool
-    ensures { λ r. ⌜ r ≡ over limit count (add n) ⌝ }
-{
-    if limit < count {
-        return true;
-    }
-    limit - count < n
-}
 
 pub fn new_answer(block: usize) -> Answer
     ensures { λ r. ⌜ r ≡ newAnswer block ⌝ }
@@ -30,38 +28,46 @@ pub fn new_answer(block: usize) -> Answer
     Answer::Accepted
 }
 
-pub fn buffers_answer(plan: Plan, n: usize, len: usize) -> Answer
-    ensures { λ r. ⌜ r ≡ buffersAnswer unitLimits plan n len ⌝ }
+pub fn buffers_answer(limits: Limits, plan: Plan, n: usize, len: usize) -> Answer
+    ensures { λ r. ⌜ r ≡ buffersAnswer limits plan n len ⌝ }
 {
-    if over(Plan::MAX_BUFFERS, plan.buffers, n) | over(Plan::MAX_INDICES, plan.indices, n) {
-        return Answer::refused(Refusal::OVER_LIMIT);
+    if let Answer::Refused(r) = limits_answer(limits, plan, buffers_growth(n)) {
+        return Answer::Refused(r);
     }
-    if over(len, plan.indices, n) {
+    if past(len, plan.indices, n) {
         return Answer::refused(Refusal::SHORT_AREA);
     }
     Answer::Accepted
 }
 
-pub fn coefficients_answer(plan: Plan, n: usize, len: usize) -> Answer
-    ensures { λ r. ⌜ r ≡ coefficientsAnswer unitLimits plan n len ⌝ }
+pub fn coefficients_answer(limits: Limits, plan: Plan, n: usize, len: usize) -> Answer
+    ensures { λ r. ⌜ r ≡ coefficientsAnswer limits plan n len ⌝ }
 {
-    if over(Plan::MAX_COEFFICIENTS, plan.coefficients, n) {
-        return Answer::refused(Refusal::OVER_LIMIT);
+    if let Answer::Refused(r) = limits_answer(limits, plan, coefficients_growth(n)) {
+        return Answer::Refused(r);
     }
-    if over(len, plan.coefficients, n) {
+    if past(len, plan.coefficients, n) {
         return Answer::refused(Refusal::SHORT_AREA);
     }
     Answer::Accepted
 }
 
 // A node of n values, with an area of `floats` floats.
-pub fn node_answer(plan: Plan, id: u32, n: usize, ramp: u32, floats: usize, words: &[u32]) -> Answer
-    ensures { λ r. ⌜ r ≡ nodeAnswer unitLimits plan id n ramp floats (now (words .entry)) ⌝ }
+pub fn node_answer(
+    limits: Limits,
+    plan: Plan,
+    id: u32,
+    n: usize,
+    ramp: u32,
+    floats: usize,
+    words: &[u32],
+) -> Answer
+    ensures { λ r. ⌜ r ≡ nodeAnswer limits plan id n ramp floats (now (words .entry)) ⌝ }
 {
-    let nodes = plan.nodes;
-    if over(Plan::MAX_NODES, nodes, 1) {
-        return Answer::refused(Refusal::OVER_LIMIT);
+    if let Answer::Refused(r) = limits_answer(limits, plan, node_growth()) {
+        return Answer::Refused(r);
     }
+    let nodes = plan.nodes;
     if plan_areas::shorter(floats, nodes + 1, Node::FLOATS)
         | plan_areas::shorter(words.len(), nodes + 1, Node::WORDS)
     {
@@ -89,13 +95,14 @@ pub fn record_length(words: &[u32]) -> usize
     1 + plan_reader::field_count(words[0])
 }
 
-pub fn step_answer(plan: Plan, words: &[u32], len: usize) -> Answer
-    ensures { λ r. ⌜ r ≡ stepAnswer unitLimits plan (now (words .entry)) len ⌝ }
+pub fn step_answer(limits: Limits, plan: Plan, words: &[u32], len: usize) -> Answer
+    ensures { λ r. ⌜ r ≡ stepAnswer limits plan (now (words .entry)) len ⌝ }
 {
-    if over(Plan::MAX_STEPS, plan.steps, 1) {
-        return Answer::refused(Refusal::OVER_LIMIT);
+    let n = record_length(words);
+    if let Answer::Refused(r) = limits_answer(limits, plan, step_growth(n)) {
+        return Answer::Refused(r);
     }
-    if over(len, plan.words, record_length(words)) {
+    if past(len, plan.words, n) {
         return Answer::refused(Refusal::SHORT_AREA);
     }
     let Read::Found(step, _) = plan_reader::read_step(words, 0) else {
@@ -107,14 +114,14 @@ pub fn step_answer(plan: Plan, words: &[u32], len: usize) -> Answer
     Answer::Accepted
 }
 
-pub fn finish_answer(plan: Plan, len: usize) -> Answer
-    ensures { λ r. ⌜ r ≡ finishAnswer unitLimits plan len ⌝ }
+pub fn finish_answer(limits: Limits, plan: Plan, len: usize) -> Answer
+    ensures { λ r. ⌜ r ≡ finishAnswer limits plan len ⌝ }
 {
     if plan_areas::bad_block(plan.block) {
         return Answer::refused(Refusal::BLOCK_LENGTH);
     }
-    if over(Plan::MAX_BUFFERS, plan.buffers, 0) {
-        return Answer::refused(Refusal::OVER_LIMIT);
+    if let Answer::Refused(r) = limits_answer(limits, plan, finish_growth()) {
+        return Answer::Refused(r);
     }
     if plan_areas::shorter(len, plan.buffers, plan.block) {
         return Answer::refused(Refusal::SHORT_AREA);

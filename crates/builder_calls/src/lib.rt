@@ -5,6 +5,7 @@ use builder::SpanAnswer;
 use lists::put_floats;
 use lists::smaller;
 use node::Node;
+use plan::Limits;
 use plan::Plan;
 use plan::Span;
 use refusal::Answer;
@@ -62,7 +63,7 @@ impl PlanBuilder {
         ensures plan { λ r. ⌜ r .plan ≡ planAfter (buffersAnswer unitLimits plan n (length (now (indices .entry)))) plan (buffersGrowth n) ⌝ }
         ensures indices { λ r. ⌜ now (indices .exit) ≡ buffersIndices unitLimits plan n (now (indices .entry)) ⌝ }
     {
-        match builder_answers::buffers_answer(plan, n, indices.len()) {
+        match builder_answers::buffers_answer(Limits::UNIT, plan, n, indices.len()) {
             Answer::Refused(r) => Spanned {
                 plan,
                 answer: SpanAnswer::Refused(r),
@@ -120,7 +121,7 @@ impl PlanBuilder {
         ensures plan { λ r. ⌜ r .plan ≡ planAfter (coefficientsAnswer unitLimits plan (length (now (values .entry))) (length (now (area .entry)))) plan (coefficientsGrowth (length (now (values .entry)))) ⌝ }
         ensures area { λ r. ⌜ now (area .exit) ≡ coefficientsArea unitLimits plan (now (values .entry)) (now (area .entry)) ⌝ }
     {
-        match builder_answers::coefficients_answer(plan, values.len(), area.len()) {
+        match builder_answers::coefficients_answer(Limits::UNIT, plan, values.len(), area.len()) {
             Answer::Refused(r) => Spanned {
                 plan,
                 answer: SpanAnswer::Refused(r),
@@ -156,7 +157,15 @@ impl PlanBuilder {
         ensures floats { λ r. ⌜ now (floats .exit) ≡ nodeFloatsArea unitLimits plan id (now (values .entry)) ramp (now (floats .entry)) (now (words .entry)) ⌝ }
         ensures words { λ r. ⌜ now (words .exit) ≡ nodeWordsArea unitLimits plan id (now (values .entry)) ramp (now (floats .entry)) (now (words .entry)) ⌝ }
     {
-        match builder_answers::node_answer(plan, id, values.len(), ramp, floats.len(), &words[..]) {
+        match builder_answers::node_answer(
+            Limits::UNIT,
+            plan,
+            id,
+            values.len(),
+            ramp,
+            floats.len(),
+            &words[..],
+        ) {
             Answer::Refused(r) => Numbered {
                 plan,
                 answer: NumberAnswer::Refused(r),
@@ -180,7 +189,7 @@ impl PlanBuilder {
         ensures plan { λ r. ⌜ r .plan ≡ planAfter (stepAnswer unitLimits plan (now («record» .entry)) (length (now (steps .entry)))) plan (stepGrowth (recordLength (now («record» .entry)))) ⌝ }
         ensures steps { λ r. ⌜ now (steps .exit) ≡ stepArea unitLimits plan (now («record» .entry)) (now (steps .entry)) ⌝ }
     {
-        match builder_answers::step_answer(plan, record, steps.len()) {
+        match builder_answers::step_answer(Limits::UNIT, plan, record, steps.len()) {
             Answer::Refused(r) => Grown {
                 plan,
                 answer: Answer::Refused(r),
@@ -204,7 +213,7 @@ impl PlanBuilder {
     pub fn finish(plan: Plan, buffers: &mut [f32]) -> Grown
         ensures { λ r. ⌜ (r .answer ≡ finishAnswer unitLimits plan (length (now (buffers .entry)))) × (r .plan ≡ plan) × (now (buffers .exit) ≡ finishArea unitLimits plan (now (buffers .entry))) ⌝ }
     {
-        match builder_answers::finish_answer(plan, buffers.len()) {
+        match builder_answers::finish_answer(Limits::UNIT, plan, buffers.len()) {
             Answer::Refused(r) => Grown {
                 plan,
                 answer: Answer::Refused(r),

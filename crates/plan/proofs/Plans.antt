@@ -13,7 +13,8 @@ use Rattle.lists.proofs.Scans.{Counted, counted-at, counted-none}
 use Rattle.node.specs.Sizes.{nodeFloats, nodeWords}
 use Rattle.node.specs.Areas.{idAt}
 use Rattle.plan.specs.declared.Plan.{Plan}
-use Rattle.plan.specs.Limits.{maxBlock, Limits, badBlock, overLimits}
+use Rattle.plan.specs.declared.Limits.{Limits}
+use Rattle.plan.specs.Limits.{maxBlock, badBlock, overLimits}
 use Rattle.plan.specs.Areas.{Areas, shorter, shortAreas, shortLists}
 use Rattle.plan.specs.Check.{idAmong, idTwice}
 

@@ -3,6 +3,7 @@ use Prim.Native.Nat.{ℕ}
 use mathlib.Core.Bool.{Bool, _||_}
 use lib.Dec.{ltb}
 use Rattle.plan.specs.declared.Plan.{Plan}
+use Rattle.plan.specs.declared.Limits.{Limits}
 
 -- a block has 1 to 1,024 samples
 abbrev pub maxBlock : ℕ
@@ -14,14 +15,6 @@ inputs = 256
 
 abbrev pub slots : ℕ
 slots = 32
-
--- the most that a plan may have of each; step words have no limit of their own
-pub record Limits : Type 0 where
-  pub buffers : ℕ
-  pub indices : ℕ
-  pub coefficients : ℕ
-  pub nodes : ℕ
-  pub steps : ℕ
 
 abbrev pub unitLimits : Limits
 unitLimits = record { buffers = 256; indices = 1024; coefficients = 1024; nodes = 64; steps = 512 }

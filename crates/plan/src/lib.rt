@@ -14,6 +14,15 @@ pub struct Plan {
     pub words: usize,
 }
 
+// The most that a plan may have of each; step words have no limit of their own.
+pub struct Limits {
+    pub buffers: usize,
+    pub indices: usize,
+    pub coefficients: usize,
+    pub nodes: usize,
+    pub steps: usize,
+}
+
 // A run of entries in the index list or in the coefficients.
 #[repr(C)]
 pub struct Span {
@@ -77,6 +86,17 @@ impl Plan {
     pub const MAX_NODES: usize = 64;
 
     pub const MAX_STEPS: usize = 512;
+}
+
+impl Limits {
+    // The unit's.
+    pub const UNIT: Limits = Limits {
+        buffers: Plan::MAX_BUFFERS,
+        indices: Plan::MAX_INDICES,
+        coefficients: Plan::MAX_COEFFICIENTS,
+        nodes: Plan::MAX_NODES,
+        steps: Plan::MAX_STEPS,
+    };
 }
 
 impl Step {

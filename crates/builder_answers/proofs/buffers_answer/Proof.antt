@@ -1,69 +1,64 @@
 -- `builder_answers::buffers_answer` meets its contract. Assumes nothing.
 use mathlib.Core.Path.{_≡_, sym, _∙_}
 use mathlib.Core.Bool.{true, false}
-use Rattle.lists.proofs.Bools.{or-is}
-use Rattle.plan.specs.Limits.{unitLimits}
-use Rattle.builder.specs.Growth.{growsOver, growsPast, buffersGrowth}
-use Rattle.builder.specs.Calls.{buffersAnswer, lentIndices}
-use Rattle.builder.proofs.Uses.{buffers-over, buffers-past}
+use mathlib.Core.List.{[]}
+use Rattle.builder.specs.Growth.{growsPast, buffersGrowth}
+use Rattle.builder.specs.Calls.{lentIndices, buffersAnswer}
+use Rattle.builder.proofs.Uses.{buffers-past}
+use Rattle.builder.proofs.Limits.{limits-say, growth-refused, growth-short, growth-own}
 use borrow.Author.Needs.{needs}
 use Rattle.builder_answers.proofs.buffers_answer.Statement.{statement}
 use Rattle.builder_answers.proofs.buffers_answer.Tie as tie
 
-over-requires : tie.Need-over-requires
-over-requires c κs = search needs
+buffers-growth-requires : tie.Need-buffers-growth-requires
+buffers-growth-requires c κs = search needs
 
-over-requires-2 : tie.Need-over-requires-2
-over-requires-2 c κs = search needs
+limits-answer-requires : tie.Need-limits-answer-requires
+limits-answer-requires c κs = search needs
 
-refused-requires : tie.Need-refused-requires
-refused-requires c κs = search needs
+enum-known-r : tie.Need-enum-known-r
+enum-known-r c = search needs
 
 returns : tie.Need-returns
 unfolding buffersAnswer
 returns c =
-    let a = c .before .before .before .before .args in
-    let t : growsOver unitLimits (a .plan) (buffersGrowth (a .n)) ≡ true =
-    buffers-over unitLimits (a .plan) (a .n) (a .len) ∙ or-is (c .before .before .before .over .ensures) (c .before .before .over2 .ensures) (c .before .if1 .taken) in
-    rw t (c .refused .ensures)
+    let a = c .before .before .before .before .before .args in
+    sym (growth-refused (a .limits) (a .plan) (buffersGrowth (a .n)) (lentIndices (a .len)) [] (c .before .r .given .0 .0) (limits-say (a .limits) (a .plan) (buffersGrowth (a .n)) (c .before .before .before .before .buffers-growth .ensures) (c .before .before .before .limits-answer .ensures) (c .before .r .given .1)))
 
-over-requires-3 : tie.Need-over-requires-3
-over-requires-3 c κs = search needs
+enum-told : tie.Need-enum-told
+enum-told c = search needs
 
-refused-requires-2 : tie.Need-refused-requires-2
-refused-requires-2 c κs = search needs
+past-requires : tie.Need-past-requires
+past-requires c κs = search needs
+
+refused-requires : tie.Need-refused-requires
+refused-requires c κs = search needs
 
 returns-2 : tie.Need-returns-2
 unfolding buffersAnswer
 returns-2 c =
-    let a = c .before .before .before .before .before .before .args in
-    let t : growsOver unitLimits (a .plan) (buffersGrowth (a .n)) ≡ false =
-    buffers-over unitLimits (a .plan) (a .n) (a .len)
-    ∙ or-is (c .before .before .before .before .before .over .ensures) (c .before .before .before .before .over2 .ensures) (c .before .before .before .if1 .left) in
-    let s : growsPast (a .plan) (buffersGrowth (a .n)) (lentIndices (a .len)) ≡ true =
-    buffers-past unitLimits (a .plan) (a .n) (a .len) ∙ sym (c .before .before .over3 .ensures) ∙ c .before .if2 .taken in
-    rw (t, s) (c .refused2 .ensures)
+    let a = c .before .before .before .before .before .before .before .args in
+    let s : growsPast (a .plan) (buffersGrowth (a .n)) (lentIndices (a .len)) ≡ true = buffers-past (a .limits) (a .plan) (a .n) (a .len) ∙ sym (c .before .before .past .ensures) ∙ c .before .if1 .taken in
+    c .refused .ensures
+    ∙ sym (growth-short (a .limits) (a .plan) (buffersGrowth (a .n)) (lentIndices (a .len)) [] (limits-say (a .limits) (a .plan) (buffersGrowth (a .n)) (c .before .before .before .before .before .before .buffers-growth .ensures) (c .before .before .before .before .before .limits-answer .ensures) (c .before .before .before .enum-told .given .1)) s)
 
 returns-3 : tie.Need-returns-3
 unfolding buffersAnswer
 returns-3 c =
-    let a = c .before .before .before .before .before .args in
-    let t : growsOver unitLimits (a .plan) (buffersGrowth (a .n)) ≡ false =
-    buffers-over unitLimits (a .plan) (a .n) (a .len)
-    ∙ or-is (c .before .before .before .before .over .ensures) (c .before .before .before .over2 .ensures) (c .before .before .if1 .left) in
-    let s : growsPast (a .plan) (buffersGrowth (a .n)) (lentIndices (a .len)) ≡ false =
-    buffers-past unitLimits (a .plan) (a .n) (a .len) ∙ sym (c .before .over3 .ensures) ∙ c .if2 .left in
-    rw (t, s)
+    let a = c .before .before .before .before .before .before .args in
+    let s : growsPast (a .plan) (buffersGrowth (a .n)) (lentIndices (a .len)) ≡ false = buffers-past (a .limits) (a .plan) (a .n) (a .len) ∙ sym (c .before .past .ensures) ∙ c .if1 .left in
+    sym (growth-own (a .limits) (a .plan) (buffersGrowth (a .n)) (lentIndices (a .len)) [] (limits-say (a .limits) (a .plan) (buffersGrowth (a .n)) (c .before .before .before .before .before .buffers-growth .ensures) (c .before .before .before .before .limits-answer .ensures) (c .before .before .enum-told .given .1)) s)
 
 pub buffers-answer-spec : {M : Type 1} → statement M
 buffers-answer-spec =
     tie.close
     (tie.spec
-    over-requires
-    over-requires-2
-    refused-requires
+    buffers-growth-requires
+    limits-answer-requires
+    enum-known-r
     returns
-    over-requires-3
-    refused-requires-2
+    enum-told
+    past-requires
+    refused-requires
     returns-2
     returns-3)

@@ -45,13 +45,13 @@ add-grown-2 c =
     let f = fit (c .before .before .before .before) in
     omega arith
 
-cast-t16 : tie.Need-cast-t16
-cast-t16 c =
+cast-t17 : tie.Need-cast-t17
+cast-t17 c =
     let f = fit (c .before .before .before .before) in
     omega arith
 
-cast-t17 : tie.Need-cast-t17
-cast-t17 c =
+cast-t18 : tie.Need-cast-t18
+cast-t18 c =
     let f = fit (c .before .before .before .before) in
     omega arith
 
@@ -91,8 +91,8 @@ buffers-spec =
     put-numbers-requires
     add-grown
     add-grown-2
-    cast-t16
     cast-t17
+    cast-t18
     returns
     same-length
     returns-2)

@@ -39,13 +39,13 @@ add-grown c =
     let f = fit (c .before .before .before .before) in
     omega arith
 
-cast-t17 : tie.Need-cast-t17
-cast-t17 c =
+cast-t18 : tie.Need-cast-t18
+cast-t18 c =
     let f = fit (c .before .before .before .before) in
     omega arith
 
-cast-t18 : tie.Need-cast-t18
-cast-t18 c =
+cast-t19 : tie.Need-cast-t19
+cast-t19 c =
     let f = fit (c .before .before .before .before) in
     omega arith
 
@@ -86,8 +86,8 @@ coefficients-spec =
     enum-told
     put-floats-requires
     add-grown
-    cast-t17
     cast-t18
+    cast-t19
     returns
     same-length
     returns-2)

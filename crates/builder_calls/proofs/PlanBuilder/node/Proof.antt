@@ -44,8 +44,8 @@ add-grown c =
     let f = fits (c .before .before .before .before .before .before .before .before) in
     omega arith
 
-cast-t23 : tie.Need-cast-t23
-cast-t23 c =
+cast-t24 : tie.Need-cast-t24
+cast-t24 c =
     let f = fits (c .before .before .before .before .before .before .before .before) in
     omega arith
 
@@ -95,7 +95,7 @@ node-spec =
     new-requires
     store-requires
     add-grown
-    cast-t23
+    cast-t24
     same-length
     returns
     same-length-2

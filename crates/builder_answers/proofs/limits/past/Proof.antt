@@ -1,11 +1,11 @@
--- `builder_answers::over` meets its contract. Assumes nothing.
+-- `builder_answers::limits::past` meets its contract. Assumes nothing.
 use Prim.Native.Nat.{_+_, _<_}
 use mathlib.Core.Path.{sym}
 use native.Mathlib.Omega.{arith}
 use borrow.Author.Tests.{lt-ltb}
 use Rattle.builder.proofs.Numbers.{less-sum}
-use Rattle.builder_answers.proofs.over.Statement.{statement}
-use Rattle.builder_answers.proofs.over.Tie as tie
+use Rattle.builder_answers.proofs.limits.past.Statement.{statement}
+use Rattle.builder_answers.proofs.limits.past.Tie as tie
 
 returns : tie.Need-returns
 returns c =
@@ -16,5 +16,5 @@ returns c =
 returns-2 : tie.Need-returns-2
 returns-2 c = less-sum (c .before .args .limit) (c .before .args .count) (c .before .args .n) (c .if1 .left)
 
-pub over-spec : {M : Type 1} → statement M
-over-spec = tie.close (tie.spec returns returns-2)
+pub past-spec : {M : Type 1} → statement M
+past-spec = tie.close (tie.spec returns returns-2)
