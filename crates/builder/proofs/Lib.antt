@@ -16,3 +16,7 @@ pub mod Refusals
 pub mod Kept
 -- what accepted calls leave, read back, is what was given
 pub mod ReadBack
+-- a sum of two growths, and its tests
+pub mod Sums
+-- what a list of calls adds, and when all of it is accepted
+pub mod Accepted

@@ -1,17 +1,27 @@
 -- The tests of the limits, in front of a call's other tests: what it is that none of them holds, and that they answer in turn. Assumes nothing.
 use mathlib.Core.Path.{_≡_, sym, ap, _∙_}
+use mathlib.Core.Logic.{_↔_}
 use mathlib.Core.Bool.{true, false}
-use mathlib.Core.List.{List, _∷_, _++_}
+use mathlib.Core.List.{List, [], _∷_, _++_}
 use Rattle.refusal.specs.Numbers.{shortArea}
 use Rattle.refusal.specs.Tests.{refusal, Test, test, first, NoneHolds}
 use Rattle.refusal.specs.declared.Refusal.{Refusal}
 use Rattle.refusal.specs.declared.Answer.{Answer}
 use Rattle.refusal.specs.declared.Answer.the-variants.{Accepted, Refused}
-use Rattle.refusal.proofs.Laws.{first-yes, first-no, first-append, none-rest, accepted-none, refused-rest}
+use Rattle.refusal.proofs.Laws.{first-yes, first-no, first-append, none-rest, accepted-none, none-accepted, refused-rest}
 use Rattle.plan.specs.declared.Plan.{Plan}
 use Rattle.plan.specs.declared.Limits.{Limits}
 use Rattle.builder.specs.declared.Growth.{Growth}
 use Rattle.builder.specs.Growth.{Lengths, growsOver, limitTests, growsPast, growthTests}
+
+-- ---- two lists of tests, one after the other
+none-split : (ts us : List Test) → NoneHolds (ts ++ us) → NoneHolds ts × NoneHolds us
+none-split [] us n = (tt, n)
+none-split (t ∷ ts) us n = let k = none-split ts us (n .1) in ((n .0, k .0), k .1)
+
+none-join : (ts us : List Test) → NoneHolds ts → NoneHolds us → NoneHolds (ts ++ us)
+none-join [] us n m = m
+none-join (t ∷ ts) us n m = (n .0, none-join ts us (n .1) m)
 
 module _ (l : Limits) (p : Plan) (g : Growth) where
   -- what they answer where code makes the growth and asks them
@@ -38,6 +48,13 @@ module _ (l : Limits) (p : Plan) (g : Growth) where
 
     pub growth-passed : NoneHolds (growthTests l p g lent own) → (growsOver l p g ≡ false) × ((growsPast p g lent ≡ false) × NoneHolds own)
     growth-passed n = limits-passed (short ∷ own) n
+
+    -- accepted exactly where no limit is met, no area is too short and none of its own holds
+    pub growth-exactly : (first (growthTests l p g lent own) Accepted ≡ Accepted) ↔ (NoneHolds (limitTests l p g) × ((growsPast p g lent ≡ false) × NoneHolds own))
+    growth-exactly = (
+      λ e. none-split (limitTests l p g) (short ∷ own) (accepted-none (growthTests l p g lent own) Accepted e .0),
+      λ h. none-accepted (growthTests l p g lent own) (none-join (limitTests l p g) (short ∷ own) (h .0) (h .1)),
+    )
 
     pub growth-refused : (r : Refusal) → first (limitTests l p g) Accepted ≡ Refused r → first (growthTests l p g lent own) Accepted ≡ Refused r
     growth-refused r e = limits-refused (short ∷ own) r e

@@ -29,11 +29,15 @@ grown p g =
       words = after (p .words) (g .words);
     }
 
+-- a test of a count, after the call
+abbrev pub tested : (ℕ → Bool) → ℕ → Change → Bool
+tested bad count Same = false
+tested bad count (Add n) = bad (count + n)
+
 -- ---- number 5: a count above its limit
 
 abbrev pub over : ℕ → ℕ → Change → Bool
-over limit count Same = false
-over limit count (Add n) = ltb limit (count + n)
+over limit count change = tested (ltb limit) count change
 
 abbrev pub growsOver : Limits → Plan → Growth → Bool
 growsOver l p g =
@@ -59,8 +63,7 @@ pub record Lengths : Type 0 where
   pub stepWords : ℕ
 
 abbrev pub tooShort : ℕ → ℕ → Change → ℕ → Bool
-tooShort length count Same each = false
-tooShort length count (Add n) each = shorter length (count + n) each
+tooShort length count change each = tested (λ k. shorter length k each) count change
 
 abbrev pub growsPast : Plan → Growth → Lengths → Bool
 growsPast p g l =

@@ -1,6 +1,5 @@
 -- `builder_answers::finish_answer` meets its contract. Assumes nothing.
 use mathlib.Core.Path.{_≡_, sym, _∙_}
-use mathlib.Core.Bool.{false}
 use mathlib.Core.List.{[], _∷_, _++_}
 use Rattle.refusal.specs.Numbers.{blockLength, shortArea}
 use Rattle.refusal.specs.Tests.{test, first}
