@@ -8,19 +8,19 @@ use lib.Ieee.{Float}
 use Rattle.refusal.specs.declared.Answer.the-variants.{Accepted}
 use Rattle.node.specs.Areas.{idAt, leftAt}
 use Rattle.run.specs.Run.{admission}
-use Rattle.run.specs.Calls.{Fixed, Held, Call, givenTo, start, afterAll, runs, NotSet, stepsOfPlan, uses}
+use Rattle.run.specs.Calls.{Fixed, Changing, Call, givenTo, start, afterAll, runs, NotSet, stepsOfPlan, uses}
 use Rattle.run.proofs.Ready.{Alike, Ready, alike-checked, alike-admitted}
 use Rattle.run.proofs.Ramps.{ramp-left}
 use Rattle.adoption.specs.Adoption.{Lent, lent, adoptionAnswer}
 use Rattle.adoption.proofs.Named.{named}
 use Rattle.adoption.proofs.Adoption.{after, adoption-kept, adoption-good, adoption-left}
 
-module _ (f : Fixed) (h : Held) (old : Lent) (pairs : List ℕ) (ramp : ℕ) where
+module _ (f : Fixed) (h : Changing) (old : Lent) (pairs : List ℕ) (ramp : ℕ) where
   -- the plan's nodes, and its areas after it adopted
   abbrev new : Lent
   new = lent (f .plan .nodes) (h .floats) (h .words)
 
-  abbrev pub adoptedHeld : Held
+  abbrev pub adoptedHeld : Changing
   adoptedHeld = let l = after new old pairs ramp in record { floats = l .floats; words = l .words; buffers = h .buffers }
 
   pub adopted-alike : Alike f h adoptedHeld

@@ -20,7 +20,7 @@ use Rattle.plan.specs.Check.{idAmong}
 use Rattle.builder.specs.declared.Growth.{Growth}
 use Rattle.builder.specs.Growth.{grown, limitTests, growsPast, buffersGrowth, coefficientsGrowth, nodeGrowth, stepGrowth}
 use Rattle.builder.specs.Calls.{lentIndices, buffersAnswer, lentCoefficients, coefficientsAnswer, lentNodes, nodeOwn, nodeAnswer, recordLength, lentSteps, stepOwn, stepAnswer}
-use Rattle.builder.specs.Built.{Call, buffers, coefficients, node, step, State, answer, after, built, accepted}
+use Rattle.builder.specs.Built.{BuilderCall, buffers, coefficients, node, step, BuilderState, answer, after, built, accepted}
 use Rattle.builder.specs.Sums.{sum, noGrowth, growthOf, growthOfAll, idOf, idsOf, idsTaken, lengths, Fit, Good, AllGood}
 use Rattle.builder.proofs.Fits.{node-fits}
 use Rattle.builder.proofs.Limits.{growth-exactly}
@@ -31,13 +31,13 @@ use Rattle.builder.proofs.Sums.{Splits, limits-sum, past-sum, grown-sum
 
 -- ---- one call
 
-module _ (l : Limits) (s : State) where
+module _ (l : Limits) (s : BuilderState) where
   one-taken : (id : ℕ) → (idsTaken (s .words) (s .plan .nodes) (id ∷ []) ≡ false) ↔ (idAmong (s .words) (s .plan .nodes) id ≡ false)
   unfolding has
   one-taken id = (λ e. or-none (idAmong (s .words) (s .plan .nodes) id) (false || false) e .0, λ e. join {a = idAmong (s .words) (s .plan .nodes) id} e refl)
 
   -- accepted exactly where its growth and its id fit, and it is good in itself
-  pub call-exactly : (c : Call) → (answer l s c ≡ Accepted) ↔ (Fit l s (growthOf c) (idOf c) × Good c)
+  pub call-exactly : (c : BuilderCall) → (answer l s c ≡ Accepted) ↔ (Fit l s (growthOf c) (idOf c) × Good c)
   unfolding buffersAnswer coefficientsAnswer nodeAnswer stepAnswer
   call-exactly (buffers n) =
       let x = growth-exactly l (s .plan) (buffersGrowth n) (lentIndices (length (s .indices))) [] in (
@@ -63,13 +63,13 @@ module _ (l : Limits) (s : State) where
         λ f. x .1 (f .0 .limits, (f .0 .areas, f .1)),
       )
 
-  plan-after : (c : Call) → answer l s c ≡ Accepted → after l s c .plan ≡ grown (s .plan) (growthOf c)
+  plan-after : (c : BuilderCall) → answer l s c ≡ Accepted → after l s c .plan ≡ grown (s .plan) (growthOf c)
   plan-after (buffers n) e = plan-accepted (s .plan) (buffersGrowth n) e
   plan-after (coefficients xs) e = plan-accepted (s .plan) (coefficientsGrowth (length xs)) e
   plan-after (node id xs ramp) e = plan-accepted (s .plan) nodeGrowth e
   plan-after (step w) e = plan-accepted (s .plan) (stepGrowth (recordLength w)) e
 
-  lengths-after : (c : Call) → answer l s c ≡ Accepted → lengths (after l s c) ≡ lengths s
+  lengths-after : (c : BuilderCall) → answer l s c ≡ Accepted → lengths (after l s c) ≡ lengths s
   lengths-after c e =
       let k = accepted-kept l s c e in
       λ i. record {
@@ -81,7 +81,7 @@ module _ (l : Limits) (s : State) where
       }
 
   -- more ids are new, and differ from its own, exactly where they are new after it
-  ids-after : (c : Call) (ids : List ℕ) → answer l s c ≡ Accepted
+  ids-after : (c : BuilderCall) (ids : List ℕ) → answer l s c ≡ Accepted
       → Splits (idsTaken (s .words) (s .plan .nodes) (idOf c ++ ids)) (idsTaken (s .words) (s .plan .nodes) (idOf c)) (idsTaken (after l s c .words) (after l s c .plan .nodes) ids)
   unfolding has
   ids-after (buffers n) ids e = rw (plan-accepted (s .plan) (buffersGrowth n) e) (λ h. (refl, h), λ h. h .1)
@@ -105,7 +105,7 @@ module _ (l : Limits) (s : State) where
   ids-after (step w) ids e = rw (plan-accepted (s .plan) (stepGrowth (recordLength w)) e) (λ h. (refl, h), λ h. h .1)
 
   -- so of an accepted call: what fits with it fits after it
-  fit-after : (c : Call) (g : Growth) (ids : List ℕ) → answer l s c ≡ Accepted → Fit l s (sum (growthOf c) g) (idOf c ++ ids) ↔ Fit l (after l s c) g ids
+  fit-after : (c : BuilderCall) (g : Growth) (ids : List ℕ) → answer l s c ≡ Accepted → Fit l s (sum (growthOf c) g) (idOf c ++ ids) ↔ Fit l (after l s c) g ids
   fit-after c g ids e =
       let own = call-exactly c .0 e .0 in
       let p = plan-after c e in
@@ -130,7 +130,7 @@ module _ (l : Limits) (s : State) where
 tail-same : {A : Type 0} (x : A) (xs ys : List A) → x ∷ xs ≡ x ∷ ys → xs ≡ ys
 tail-same x xs ys e = cc
 
-own-new : (words : List ℕ) (n : ℕ) (c : Call) (ids : List ℕ) → idsTaken words n (idOf c ++ ids) ≡ false → idsTaken words n (idOf c) ≡ false
+own-new : (words : List ℕ) (n : ℕ) (c : BuilderCall) (ids : List ℕ) → idsTaken words n (idOf c ++ ids) ≡ false → idsTaken words n (idOf c) ≡ false
 unfolding has
 own-new words n (buffers m) ids e = refl
 own-new words n (coefficients xs) ids e = refl
@@ -139,11 +139,11 @@ own-new words n (step w) ids e = refl
 
 module _ (l : Limits) where
   -- after any calls, refused ones among them, the plan has grown by what the accepted ones add, and by no more
-  pub really-grown : (cs : List Call) (s : State) → built l s cs .plan ≡ grown (s .plan) (growthOfAll (accepted l s cs))
+  pub really-grown : (cs : List BuilderCall) (s : BuilderState) → built l s cs .plan ≡ grown (s .plan) (growthOfAll (accepted l s cs))
   really-grown [] s = refl
   really-grown (c ∷ cs) s = go (answer l s c) refl (really-grown cs t)
     where
-      t : State
+      t : BuilderState
       t = after l s c
 
       more : Growth
@@ -152,13 +152,13 @@ module _ (l : Limits) where
       go : (a : Answer) → answer l s c ≡ a → built l t cs .plan ≡ grown (t .plan) more
           → built l t cs .plan ≡ grown (s .plan) (growthOfAll (outcome a (c ∷ accepted l t cs) (λ _. accepted l t cs)))
       go Accepted e ih = ih ∙ ap (λ (p : Plan). grown p more) (plan-after l s c e) ∙ grown-sum (s .plan) (growthOf c) more
-      go (Refused r) e ih = ih ∙ ap (λ (u : State). grown (u .plan) more) (refused-nothing l s c r e)
+      go (Refused r) e ih = ih ∙ ap (λ (u : BuilderState). grown (u .plan) more) (refused-nothing l s c r e)
 
-  taken : (s : State) (c : Call) (cs : List Call) → answer l s c ≡ Accepted → accepted l s (c ∷ cs) ≡ c ∷ accepted l (after l s c) cs
+  taken : (s : BuilderState) (c : BuilderCall) (cs : List BuilderCall) → answer l s c ≡ Accepted → accepted l s (c ∷ cs) ≡ c ∷ accepted l (after l s c) cs
   taken s c cs e = outcome-accepted (answer l s c) (c ∷ accepted l (after l s c) cs) (λ _. accepted l (after l s c) cs) e
 
   -- all accepted: where the calls fit as one, and each is good in itself
-  pub all-accepted : (cs : List Call) (s : State) → Fit l s (growthOfAll cs) (idsOf cs) → AllGood cs → accepted l s cs ≡ cs
+  pub all-accepted : (cs : List BuilderCall) (s : BuilderState) → Fit l s (growthOfAll cs) (idsOf cs) → AllGood cs → accepted l s cs ≡ cs
   all-accepted [] s f g = refl
   all-accepted (c ∷ cs) s f g =
       let own : Fit l s (growthOf c) (idOf c) = record {
@@ -167,10 +167,10 @@ module _ (l : Limits) where
         new = own-new (s .words) (s .plan .nodes) c (idsOf cs) (f .new);
       } in
       let e = call-exactly l s c .1 (own, g .0) in
-      taken s c cs e ∙ ap (λ (ds : List Call). c ∷ ds) (all-accepted cs (after l s c) (fit-after l s c (growthOfAll cs) (idsOf cs) e .0 f) (g .1))
+      taken s c cs e ∙ ap (λ (ds : List BuilderCall). c ∷ ds) (all-accepted cs (after l s c) (fit-after l s c (growthOfAll cs) (idsOf cs) e .0 f) (g .1))
 
   -- … and only there
-  fewer : (cs : List Call) (s : State) → length (accepted l s cs) ≤ length cs
+  fewer : (cs : List BuilderCall) (s : BuilderState) → length (accepted l s cs) ≤ length cs
   fewer [] s = omega arith
   fewer (c ∷ cs) s = go (answer l s c) (fewer cs (after l s c))
     where
@@ -179,14 +179,14 @@ module _ (l : Limits) where
       go Accepted h = omega arith
       go (Refused r) h = omega arith
 
-  pub accepted-fit : (cs : List Call) (s : State) → accepted l s cs ≡ cs → Fit l s (growthOfAll cs) (idsOf cs) × AllGood cs
+  pub accepted-fit : (cs : List BuilderCall) (s : BuilderState) → accepted l s cs ≡ cs → Fit l s (growthOfAll cs) (idsOf cs) × AllGood cs
   accepted-fit [] s q = (record { limits = limits-none; areas = refl; new = refl }, tt)
     where
       limits-none : NoneHolds (limitTests l (s .plan) noGrowth)
       limits-none = (refl, tt)
   accepted-fit (c ∷ cs) s q = go (answer l s c) refl (accepted-fit cs (after l s c))
     where
-      t : State
+      t : BuilderState
       t = after l s c
 
       go : (a : Answer) → answer l s c ≡ a → (accepted l t cs ≡ cs → Fit l t (growthOfAll cs) (idsOf cs) × AllGood cs)

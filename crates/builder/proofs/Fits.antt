@@ -21,7 +21,7 @@ use Rattle.plan.specs.Words.{fields, readAt}
 use Rattle.plan.specs.Areas.{shorter}
 use Rattle.plan.specs.Check.{idAmong}
 use Rattle.builder.specs.Growth.{buffersGrowth, coefficientsGrowth, nodeGrowth, stepGrowth, finishGrowth}
-use Rattle.builder.specs.Calls.{lentIndices, buffersTests, buffersAnswer, lentCoefficients, coefficientsTests, coefficientsAnswer, lentNodes, nodeOwn, nodeTests, nodeAnswer, recordLength, lentSteps, unreadable, stepOwn, stepTests, stepAnswer, finishTests, finishAnswer}
+use Rattle.builder.specs.Calls.{lentIndices, buffersTests, buffersAnswer, lentCoefficients, coefficientsTests, coefficientsAnswer, lentNodes, nodeOwn, nodeTests, nodeAnswer, recordLength, lentSteps, unreadable, stepOwn, stepCallTests, stepAnswer, finishTests, finishAnswer}
 use Rattle.builder.proofs.Uses.{buffers-over, buffers-past, coefficients-over, coefficients-past, node-over, node-past, step-over, step-past, finish-over}
 use Rattle.builder.proofs.Limits.{limits-passed, growth-passed}
 
@@ -106,7 +106,7 @@ pub record StepFits (l : Limits) (p : Plan) (w : List ℕ) (len : ℕ) : Type 0 
 pub step-fits : (l : Limits) (p : Plan) (w : List ℕ) (len : ℕ) → stepAnswer l p w len ≡ Accepted → StepFits l p w len
 unfolding stepAnswer
 step-fits l p w len e =
-    let t = growth-passed l p (stepGrowth (recordLength w)) (lentSteps len) (stepOwn w) (accepted-none (stepTests l p w len) Accepted e .0) in
+    let t = growth-passed l p (stepGrowth (recordLength w)) (lentSteps len) (stepOwn w) (accepted-none (stepCallTests l p w len) Accepted e .0) in
     record {
       steps = ltb-false _ _ (sym (step-over l p (recordLength w) len) ∙ t .0);
       area = ltb-false _ _ (sym (step-past l p (recordLength w) len) ∙ t .1 .0);

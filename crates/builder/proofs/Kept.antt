@@ -20,7 +20,7 @@ use Rattle.plan.specs.declared.Plan.{Plan}
 use Rattle.plan.specs.declared.Limits.{Limits}
 use Rattle.builder.specs.Growth.{buffersGrowth, coefficientsGrowth, nodeGrowth, stepGrowth}
 use Rattle.builder.specs.Calls.{numbersFrom, recordLength, finishAnswer, finishArea}
-use Rattle.builder.specs.Built.{Call, buffers, coefficients, node, step, State, answer, after, KeptPart, Kept}
+use Rattle.builder.specs.Built.{BuilderCall, buffers, coefficients, node, step, BuilderState, answer, after, KeptPart, Kept}
 use Rattle.builder.proofs.Numbers.{length-numbers}
 use Rattle.builder.proofs.Fits.{step-fits}
 use Rattle.builder.proofs.Outcomes.{plan-accepted, buffers-accepted, coefficients-accepted, floats-accepted, words-accepted, step-accepted, finish-accepted}
@@ -31,7 +31,7 @@ untouched k l = record { front = refl; rest = refl; length = refl }
 stored : {A : Type 0} (k m : ℕ) (l vs : List A) → k + length vs ≤ m → KeptPart k m l (sets l k vs)
 stored k m l vs h = record { front = take-sets k l k vs (le-refl k); rest = drop-sets m l k vs h; length = length-sets l k vs }
 
-pub accepted-kept : (l : Limits) (s : State) (c : Call) → answer l s c ≡ Accepted → Kept s (after l s c)
+pub accepted-kept : (l : Limits) (s : BuilderState) (c : BuilderCall) → answer l s c ≡ Accepted → Kept s (after l s c)
 accepted-kept l s (buffers n) e =
     let p = s .plan in
     rw (plan-accepted p (buffersGrowth n) e, buffers-accepted l p n (s .indices) e)

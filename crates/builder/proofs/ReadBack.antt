@@ -30,7 +30,7 @@ use Rattle.plan.proofs.Words.{patch-fields, gain-fields, matrix-fields, clear-f
 use Rattle.plan.proofs.Places.{Is, Kind, patch, gain, matrix, clear, send, output, read-kind, read-agree, read-append, read-seam}
 use Rattle.builder.specs.Growth.{buffersGrowth, coefficientsGrowth, nodeGrowth, stepGrowth}
 use Rattle.builder.specs.Calls.{emptyPlan, numbersFrom, recordLength, unreadable}
-use Rattle.builder.specs.Built.{Call, buffers, coefficients, node, step, State, answer, after, built, accepted, Draft, noDraft, stepRead, given, drafted, Reads, none, then, Holds}
+use Rattle.builder.specs.Built.{BuilderCall, buffers, coefficients, node, step, BuilderState, answer, after, built, accepted, Draft, noDraft, stepRead, given, drafted, Reads, none, then, Drafted}
 use Rattle.builder.proofs.Numbers.{length-numbers}
 use Rattle.builder.proofs.Fits.{buffers-fit, coefficients-fit, node-fits, step-fits}
 use Rattle.builder.proofs.Outcomes.{plan-accepted, buffers-accepted, coefficients-accepted, floats-accepted, words-accepted, step-accepted}
@@ -59,8 +59,8 @@ node-appended n id values ramp floats words hf hw =
     let last : nodeAt fs ws n ≡ new = stored-same floats words n new full (hf, hw) in
     ap (λ (k : ℕ). nodes k fs ws) (add-one n) ∙ rw (before, last)
 
-module _ (l : Limits) (s : State) (d : Draft) (h : Holds s d) where
-  buffers-held : (n : ℕ) → answer l s (buffers n) ≡ Accepted → Holds (after l s (buffers n)) (given d (buffers n))
+module _ (l : Limits) (s : BuilderState) (d : Draft) (h : Drafted s d) where
+  buffers-held : (n : ℕ) → answer l s (buffers n) ≡ Accepted → Drafted (after l s (buffers n)) (given d (buffers n))
   buffers-held n e =
       let p = s .plan in
       let f = buffers-fit l p n (length (s .indices)) e in
@@ -81,7 +81,7 @@ module _ (l : Limits) (s : State) (d : Draft) (h : Holds s d) where
         steps = h .steps;
       })
 
-  coefficients-held : (xs : List Float) → answer l s (coefficients xs) ≡ Accepted → Holds (after l s (coefficients xs)) (given d (coefficients xs))
+  coefficients-held : (xs : List Float) → answer l s (coefficients xs) ≡ Accepted → Drafted (after l s (coefficients xs)) (given d (coefficients xs))
   coefficients-held xs e =
       let p = s .plan in
       let f = coefficients-fit l p (length xs) (length (s .coefficients)) e in
@@ -100,7 +100,7 @@ module _ (l : Limits) (s : State) (d : Draft) (h : Holds s d) where
         steps = h .steps;
       })
 
-  node-held : (id : ℕ) (xs : List Float) (ramp : ℕ) → answer l s (node id xs ramp) ≡ Accepted → Holds (after l s (node id xs ramp)) (given d (node id xs ramp))
+  node-held : (id : ℕ) (xs : List Float) (ramp : ℕ) → answer l s (node id xs ramp) ≡ Accepted → Drafted (after l s (node id xs ramp)) (given d (node id xs ramp))
   node-held id xs ramp e =
       let p = s .plan in
       let f = node-fits l p id (length xs) ramp (length (s .floats)) (s .words) e in
@@ -154,9 +154,9 @@ pub reads-decoded : {w : List ℕ} {at end : ℕ} {ss : List Step} → Reads w a
 reads-decoded {w} {at} none = decoded-none w at refl
 reads-decoded {w} {at} (then {s = s} r rs) = decoded-on w at refl r ∙ ap (λ (l : List Step). s ∷ l) (reads-decoded rs)
 
-module _ (l : Limits) (s : State) (d : Draft) (h : Holds s d) (w : List ℕ) (e : answer l s (step w) ≡ Accepted) where
+module _ (l : Limits) (s : BuilderState) (d : Draft) (h : Drafted s d) (w : List ℕ) (e : answer l s (step w) ≡ Accepted) where
   -- the record that was given is a step, and lies after the words before it
-  step-read : (t : Step) (next : ℕ) → readAt w 0 ≡ Found t next → Holds (after l s (step w)) (given d (step w))
+  step-read : (t : Step) (next : ℕ) → readAt w 0 ≡ Found t next → Drafted (after l s (step w)) (given d (step w))
   step-read t next r =
       let p = s .plan in
       let n = recordLength w in
@@ -183,35 +183,35 @@ module _ (l : Limits) (s : State) (d : Draft) (h : Holds s d) (w : List ℕ) (e 
         steps = subst (λ (ss : List Step). Reads (d .words ++ rec) 0 (d .steps ++ ss) (length (d .words ++ rec))) (sym given-step) (reads-one (reads-append rec (h .steps)) here);
       })
 
-  step-held : Holds (after l s (step w)) (given d (step w))
+  step-held : Drafted (after l s (step w)) (given d (step w))
   step-held = go (readAt w 0) refl
     where
-      go : (r : Read) → readAt w 0 ≡ r → Holds (after l s (step w)) (given d (step w))
+      go : (r : Read) → readAt w 0 ≡ r → Drafted (after l s (step w)) (given d (step w))
       go (Found t next) r = step-read t next r
       go Bad r = absurd (true≢false (sym (ap unreadable r) ∙ step-fits l (s .plan) w (length (s .steps)) e .readable))
 
 -- ---- lists of calls
 
-pub call-held : (l : Limits) (s : State) (d : Draft) (c : Call) → Holds s d → answer l s c ≡ Accepted → Holds (after l s c) (given d c)
+pub call-held : (l : Limits) (s : BuilderState) (d : Draft) (c : BuilderCall) → Drafted s d → answer l s c ≡ Accepted → Drafted (after l s c) (given d c)
 call-held l s d (buffers n) h e = buffers-held l s d h n e
 call-held l s d (coefficients xs) h e = coefficients-held l s d h xs e
 call-held l s d (node id xs ramp) h e = node-held l s d h id xs ramp e
 call-held l s d (step w) h e = step-held l s d h w e
 
-pub built-held : (l : Limits) (cs : List Call) (s : State) (d : Draft) → Holds s d → Holds (built l s cs) (drafted d (accepted l s cs))
+pub built-held : (l : Limits) (cs : List BuilderCall) (s : BuilderState) (d : Draft) → Drafted s d → Drafted (built l s cs) (drafted d (accepted l s cs))
 built-held l [] s d h = h
 built-held l (c ∷ cs) s d h = go (answer l s c) refl (built-held l cs (after l s c) (given d c)) (built-held l cs (after l s c) d)
   where
-    t : State
+    t : BuilderState
     t = after l s c
 
-    go : (a : Answer) → answer l s c ≡ a → (Holds t (given d c) → Holds (built l t cs) (drafted (given d c) (accepted l t cs)))
-        → (Holds t d → Holds (built l t cs) (drafted d (accepted l t cs))) → Holds (built l t cs) (drafted d (outcome a (c ∷ accepted l t cs) (λ _. accepted l t cs)))
+    go : (a : Answer) → answer l s c ≡ a → (Drafted t (given d c) → Drafted (built l t cs) (drafted (given d c) (accepted l t cs)))
+        → (Drafted t d → Drafted (built l t cs) (drafted d (accepted l t cs))) → Drafted (built l t cs) (drafted d (outcome a (c ∷ accepted l t cs) (λ _. accepted l t cs)))
     go Accepted e taken left = taken (call-held l s d c h e)
-    go (Refused r) e taken left = left (subst (λ (u : State). Holds u d) (sym (refused-nothing l s c r e)) h)
+    go (Refused r) e taken left = left (subst (λ (u : BuilderState). Drafted u d) (sym (refused-nothing l s c r e)) h)
 
 -- what `new` leaves holds nothing, in areas of any content and length
-empty-held : (s : State) (block : ℕ) → s .plan ≡ emptyPlan block → Holds s noDraft
+empty-held : (s : BuilderState) (block : ℕ) → s .plan ≡ emptyPlan block → Drafted s noDraft
 unfolding nodes
 empty-held s block e =
     record {
@@ -230,9 +230,9 @@ empty-held s block e =
 
 -- The theorem: after `new` and any list of calls, refused ones among them, in areas of any content and length, the plan holds the draft of
 -- the accepted calls.
-pub read-back : (l : Limits) (block : ℕ) (s : State) → s .plan ≡ emptyPlan block → (cs : List Call) → Holds (built l s cs) (drafted noDraft (accepted l s cs))
+pub read-back : (l : Limits) (block : ℕ) (s : BuilderState) → s .plan ≡ emptyPlan block → (cs : List BuilderCall) → Drafted (built l s cs) (drafted noDraft (accepted l s cs))
 read-back l block s e cs = built-held l cs s noDraft (empty-held s block e)
 
 -- so the step words, as a run decodes them, are the steps that were given
-pub held-decoded : (s : State) (d : Draft) → Holds s d → decoded (take (s .plan .words) (s .steps)) (s .plan .steps) ≡ d .steps
+pub held-decoded : (s : BuilderState) (d : Draft) → Drafted s d → decoded (take (s .plan .words) (s .steps)) (s .plan .steps) ≡ d .steps
 held-decoded s d h = rw (h .words, h .step-count) (decoded-start (d .words) (length (d .steps)) ∙ reads-decoded (h .steps))

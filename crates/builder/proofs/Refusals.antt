@@ -6,10 +6,10 @@ use lib.ListN.{length}
 use Rattle.plan.specs.declared.Limits.{Limits}
 use Rattle.builder.specs.Growth.{buffersGrowth, coefficientsGrowth, nodeGrowth, stepGrowth}
 use Rattle.builder.specs.Calls.{recordLength}
-use Rattle.builder.specs.Built.{Call, buffers, coefficients, node, step, State, answer, after}
+use Rattle.builder.specs.Built.{BuilderCall, buffers, coefficients, node, step, BuilderState, answer, after}
 use Rattle.builder.proofs.Outcomes.{plan-refused, buffers-refused, coefficients-refused, floats-refused, words-refused, step-refused}
 
-pub refused-nothing : (l : Limits) (s : State) (c : Call) (r : Refusal) → answer l s c ≡ Refused r → after l s c ≡ s
+pub refused-nothing : (l : Limits) (s : BuilderState) (c : BuilderCall) (r : Refusal) → answer l s c ≡ Refused r → after l s c ≡ s
 refused-nothing l s (buffers n) r e =
     rw (plan-refused (s .plan) (buffersGrowth n) e, buffers-refused l (s .plan) n (s .indices) e)
 refused-nothing l s (coefficients xs) r e =

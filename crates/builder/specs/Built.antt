@@ -20,14 +20,14 @@ use Rattle.builder.specs.Growth.{buffersGrowth, coefficientsGrowth, node
 use Rattle.builder.specs.Calls.{planAfter, buffersAnswer, numbersFrom, buffersIndices, coefficientsAnswer, coefficientsArea, nodeAnswer, nodeFloatsArea, nodeWordsArea, recordLength, stepAnswer, stepArea}
 
 -- a call between `new` and `finish`
-pub data Call : Type 0 where
-  buffers : ℕ → Call
-  coefficients : List Float → Call
-  node : (id : ℕ) (values : List Float) (ramp : ℕ) → Call
-  step : List ℕ → Call
+pub data BuilderCall : Type 0 where
+  buffers : ℕ → BuilderCall
+  coefficients : List Float → BuilderCall
+  node : (id : ℕ) (values : List Float) (ramp : ℕ) → BuilderCall
+  step : List ℕ → BuilderCall
 
 -- the plan, and the areas that these calls are lent
-pub record State : Type 0 where
+pub record BuilderState : Type 0 where
   pub plan : Plan
   pub indices : List ℕ
   pub coefficients : List Float
@@ -36,14 +36,14 @@ pub record State : Type 0 where
   pub steps : List ℕ
 
 module _ (l : Limits) where
-  abbrev pub answer : State → Call → Answer
+  abbrev pub answer : BuilderState → BuilderCall → Answer
   answer s (buffers n) = buffersAnswer l (s .plan) n (length (s .indices))
   answer s (coefficients xs) = coefficientsAnswer l (s .plan) (length xs) (length (s .coefficients))
   answer s (node id xs ramp) = nodeAnswer l (s .plan) id (length xs) ramp (length (s .floats)) (s .words)
   answer s (step w) = stepAnswer l (s .plan) w (length (s .steps))
 
   -- what a call leaves, refused or not
-  abbrev pub after : State → Call → State
+  abbrev pub after : BuilderState → BuilderCall → BuilderState
   after s (buffers n) =
       record {
         plan = planAfter (answer s (buffers n)) (s .plan) (buffersGrowth n);
@@ -82,11 +82,11 @@ module _ (l : Limits) where
       }
 
   -- what a list of calls leaves, and those of them that are accepted
-  abbrev pub built : State → List Call → State
+  abbrev pub built : BuilderState → List BuilderCall → BuilderState
   built s [] = s
   built s (c ∷ cs) = built (after s c) cs
 
-  abbrev pub accepted : State → List Call → List Call
+  abbrev pub accepted : BuilderState → List BuilderCall → List BuilderCall
   accepted s [] = []
   accepted s (c ∷ cs) = outcome (answer s c) (c ∷ accepted (after s c) cs) (λ _. accepted (after s c) cs)
 
@@ -99,7 +99,7 @@ pub record KeptPart {A : Type 0} (from to : ℕ) (old new : List A) : Type 0 whe
   pub length : length new ≡ length old
 
 -- From s to t, the block stays, and of each area all but the entries that were added.
-pub record Kept (s t : State) : Type 0 where
+pub record Kept (s t : BuilderState) : Type 0 where
   pub block : t .plan .block ≡ s .plan .block
   pub indices : KeptPart (s .plan .indices) (t .plan .indices) (s .indices) (t .indices)
   pub coefficients : KeptPart (s .plan .coefficients) (t .plan .coefficients) (s .coefficients) (t .coefficients)
@@ -125,7 +125,7 @@ abbrev pub stepRead : Read → List Step
 stepRead (Found s next) = s ∷ []
 stepRead Bad = []
 
-abbrev pub given : Draft → Call → Draft
+abbrev pub given : Draft → BuilderCall → Draft
 given d (buffers n) =
     record {
       buffers = d .buffers + n;
@@ -156,7 +156,7 @@ given d (step w) =
       words = d .words ++ take (recordLength w) w;
     }
 
-abbrev pub drafted : Draft → List Call → Draft
+abbrev pub drafted : Draft → List BuilderCall → Draft
 drafted d [] = d
 drafted d (c ∷ cs) = drafted (given d c) cs
 
@@ -166,7 +166,7 @@ pub data Reads (w : List ℕ) : ℕ → List Step → ℕ → Type 0 where
   then : {at next end : ℕ} {s : Step} {ss : List Step} → readAt w at ≡ Found s next → Reads w next ss end → Reads w at (s ∷ ss) end
 
 -- A plan and its areas hold a draft: the counts are those of its lists, and what the areas have up to the counts, read back, is the lists.
-pub record Holds (s : State) (d : Draft) : Type 0 where
+pub record Drafted (s : BuilderState) (d : Draft) : Type 0 where
   pub buffers : s .plan .buffers ≡ d .buffers
   pub index-count : s .plan .indices ≡ length (d .indices)
   pub coefficient-count : s .plan .coefficients ≡ length (d .coefficients)

@@ -15,6 +15,7 @@ use Rattle.node.specs.Sizes.{maxValues, rampTooLong}
 use Rattle.node.specs.Nodes.{silence, newNode}
 use Rattle.node.specs.Areas.{storedFloats, storedWords}
 use Rattle.plan.specs.declared.Plan.{Plan}
+use Rattle.plan.specs.PlanRecord.{planWith}
 use Rattle.plan.specs.declared.Span.{Span}
 use Rattle.plan.specs.declared.Read.{Read}
 use Rattle.plan.specs.declared.Read.the-variants.{Found, Bad}
@@ -44,7 +45,7 @@ newAnswer block = first (newTests block) Accepted
 
 -- a plan with nothing in it yet, also where the block is refused
 abbrev pub emptyPlan : ℕ → Plan
-emptyPlan block = record { block = block; buffers = 0; indices = 0; coefficients = 0; nodes = 0; steps = 0; words = 0 }
+emptyPlan block = planWith block 0 0 0 0 0 0
 
 -- ---- `buffers`: 5, 2
 
@@ -157,12 +158,12 @@ wide Bad = false
 abbrev pub stepOwn : List ℕ → List Test
 stepOwn w = test unreadableStep (unreadable (readAt w 0)) ∷ test tooManyValues (wide (readAt w 0)) ∷ []
 
-abbrev pub stepTests : Limits → Plan → List ℕ → ℕ → List Test
-stepTests l p w len = growthTests l p (stepGrowth (recordLength w)) (lentSteps len) (stepOwn w)
+abbrev pub stepCallTests : Limits → Plan → List ℕ → ℕ → List Test
+stepCallTests l p w len = growthTests l p (stepGrowth (recordLength w)) (lentSteps len) (stepOwn w)
 
 unfoldable pub stepAnswer : Limits → Plan → List ℕ → ℕ → Answer
 unfolding readAt tooWide
-stepAnswer l p w len = first (stepTests l p w len) Accepted
+stepAnswer l p w len = first (stepCallTests l p w len) Accepted
 
 unfoldable pub stepArea : Limits → Plan → List ℕ → List ℕ → List ℕ
 unfolding stepAnswer

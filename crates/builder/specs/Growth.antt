@@ -7,6 +7,7 @@ use Rattle.refusal.specs.Numbers.{shortArea, overLimit}
 use Rattle.refusal.specs.Tests.{Test, test}
 use Rattle.node.specs.Sizes.{nodeFloats, nodeWords}
 use Rattle.plan.specs.declared.Plan.{Plan}
+use Rattle.plan.specs.PlanRecord.{planWith}
 use Rattle.plan.specs.declared.Limits.{Limits}
 use Rattle.plan.specs.Areas.{shorter}
 use Rattle.builder.specs.declared.Change.{Change}
@@ -19,15 +20,8 @@ after count (Add n) = count + n
 
 abbrev pub grown : Plan → Growth → Plan
 grown p g =
-    record {
-      block = p .block;
-      buffers = after (p .buffers) (g .buffers);
-      indices = after (p .indices) (g .indices);
-      coefficients = after (p .coefficients) (g .coefficients);
-      nodes = after (p .nodes) (g .nodes);
-      steps = after (p .steps) (g .steps);
-      words = after (p .words) (g .words);
-    }
+    planWith (p .block) (after (p .buffers) (g .buffers)) (after (p .indices) (g .indices)) (after (p .coefficients) (g .coefficients))
+    (after (p .nodes) (g .nodes)) (after (p .steps) (g .steps)) (after (p .words) (g .words))
 
 -- a test of a count, after the call
 abbrev pub tested : (ℕ → Bool) → ℕ → Change → Bool

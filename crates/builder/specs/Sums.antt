@@ -15,7 +15,7 @@ use Rattle.builder.specs.declared.Change.the-variants.{Same, Add}
 use Rattle.builder.specs.declared.Growth.{Growth}
 use Rattle.builder.specs.Growth.{Lengths, limitTests, growsPast, buffersGrowth, coefficientsGrowth, nodeGrowth, stepGrowth}
 use Rattle.builder.specs.Calls.{recordLength, stepOwn}
-use Rattle.builder.specs.Built.{Call, buffers, coefficients, node, step, State}
+use Rattle.builder.specs.Built.{BuilderCall, buffers, coefficients, node, step, BuilderState}
 
 -- ---- the growth
 
@@ -38,25 +38,25 @@ sum g h =
 abbrev pub noGrowth : Growth
 noGrowth = record { buffers = Same; indices = Same; coefficients = Same; nodes = Same; steps = Same; words = Same }
 
-abbrev pub growthOf : Call → Growth
+abbrev pub growthOf : BuilderCall → Growth
 growthOf (buffers n) = buffersGrowth n
 growthOf (coefficients xs) = coefficientsGrowth (length xs)
 growthOf (node id xs ramp) = nodeGrowth
 growthOf (step w) = stepGrowth (recordLength w)
 
-abbrev pub growthOfAll : List Call → Growth
+abbrev pub growthOfAll : List BuilderCall → Growth
 growthOfAll [] = noGrowth
 growthOfAll (c ∷ cs) = sum (growthOf c) (growthOfAll cs)
 
 -- ---- the ids of the nodes
 
-abbrev pub idOf : Call → List ℕ
+abbrev pub idOf : BuilderCall → List ℕ
 idOf (buffers n) = []
 idOf (coefficients xs) = []
 idOf (node id xs ramp) = id ∷ []
 idOf (step w) = []
 
-abbrev pub idsOf : List Call → List ℕ
+abbrev pub idsOf : List BuilderCall → List ℕ
 idsOf [] = []
 idsOf (c ∷ cs) = idOf c ++ idsOf cs
 
@@ -67,7 +67,7 @@ idsTaken words n (id ∷ ids) = idAmong words n id || (has ids id || idsTaken wo
 
 -- ---- accepted as one
 
-abbrev pub lengths : State → Lengths
+abbrev pub lengths : BuilderState → Lengths
 lengths s =
     record {
       indices = length (s .indices);
@@ -78,18 +78,18 @@ lengths s =
     }
 
 -- a growth, and nodes of these ids, meet neither 5 nor 2 nor 8
-pub record Fit (l : Limits) (s : State) (g : Growth) (ids : List ℕ) : Type 0 where
+pub record Fit (l : Limits) (s : BuilderState) (g : Growth) (ids : List ℕ) : Type 0 where
   pub limits : NoneHolds (limitTests l (s .plan) g)
   pub areas : growsPast (s .plan) g (lengths s) ≡ false
   pub new : idsTaken (s .words) (s .plan .nodes) ids ≡ false
 
 -- what else a call tests: 7 and 10, 3 and 7
-abbrev pub Good : Call → Type 0
+abbrev pub Good : BuilderCall → Type 0
 Good (buffers n) = Unit {0}
 Good (coefficients xs) = Unit {0}
 Good (node id xs ramp) = (ltb maxValues (length xs) ≡ false) × (rampTooLong ramp ≡ false)
 Good (step w) = NoneHolds (stepOwn w)
 
-abbrev pub AllGood : List Call → Type 0
+abbrev pub AllGood : List BuilderCall → Type 0
 AllGood [] = Unit {0}
 AllGood (c ∷ cs) = Good c × AllGood cs

@@ -9,7 +9,7 @@ use Rattle.lists.specs.Entries.{someFrom, has, meet}
 use Rattle.refusal.specs.declared.Answer.{Answer}
 use Rattle.refusal.specs.declared.Answer.the-variants.{Accepted}
 use Rattle.node.specs.declared.Node.{Node}
-use Rattle.node.specs.Nodes.{newNode, setNode, finishBlock, gainOf, factor}
+use Rattle.node.specs.Nodes.{newNode, setNode, finishBlock, gainOf, factor, zeroNode}
 use Rattle.node.specs.Areas.{nodeAt, floatsOf, wordsOf, someBad, badNode}
 use Rattle.mix.specs.Samples.{sampled}
 use Rattle.mix.specs.Mix.{added, weighted, sent, columns, weighs}
@@ -17,14 +17,15 @@ use Rattle.plan.specs.Limits.{unitLimits}
 use Rattle.plan.specs.Areas.{Areas, areas}
 use Rattle.plan.specs.Words.{patchMap, clearMap, sendMap, outputMap, stepOf, decodedFrom, decoded}
 use Rattle.plan.specs.Check.{idAmong, idTwice, outside, shares, stepsTests, checkPlan}
+use Rattle.plan.specs.PlanRecord.{planWith}
 use Rattle.builder.specs.Calls.{numbersFrom, newAnswer, buffersIndices, coefficientsArea, nodeFloatsArea, nodeWordsArea, stepArea, finishAnswer, finishArea}
-use Rattle.builder.specs.Built.{Call, buffers, coefficients, node, step}
+use Rattle.builder.specs.Built.{BuilderCall, buffers, coefficients, node, step}
 use Rattle.trace.specs.Calls.{sourcesAnswer, sourcesArea}
 use Rattle.trace.specs.declared.Sources.{Sources}
 use Rattle.run.specs.Run.{processed}
 use Rattle.run.specs.Calls.{afterAll, run}
 use Rattle.run.specs.Calls.{Call as RunCall}
-use Rattle.theorem.specs.Builds.{Build, grown, acceptedCalls, fixed, held}
+use Rattle.theorem.specs.Builds.{Build, grown, acceptedCalls, fixed, changing}
 use Rattle.theorem.specs.Journal.{Entry, setting, ran, journal}
 use Rattle.cases.specs.Numbers.{plusZero}
 
@@ -34,7 +35,7 @@ use Rattle.cases.specs.Numbers.{plusZero}
 abbrev pub lent : Areas
 lent = areas (replicate 4 0) (replicate 1 plusZero) (replicate 72 plusZero) (replicate 3 0) (replicate 19 0) (replicate 6 plusZero)
 
-abbrev pub build : ℕ → List Call → Build
+abbrev pub build : ℕ → List BuilderCall → Build
 build block calls = record { block = block; lent = lent; calls = calls }
 
 -- One input through a Gain or a Matrix of one value, by its map, to slot 0. The index list names buffer i at place i.
@@ -98,23 +99,23 @@ Writes b calls blocks =
     (acceptedCalls b ≡ b .calls)
     × (newAnswer (b .block) ≡ Accepted)
     × (finishAnswer unitLimits (grown b .plan) (length (b .lent .buffers)) ≡ Accepted)
-    × (outputs (journal (fixed b) (held b) calls) ≡ blocks)
+    × (outputs (journal (fixed b) (changing b) calls) ≡ blocks)
 
 -- the node after the calls
 abbrev pub nodeAfter : Build → List RunCall → Node
-nodeAfter b calls = nodeAt (afterAll (fixed b) (held b) calls .floats) (afterAll (fixed b) (held b) calls .words) 0
+nodeAfter b calls = nodeAt (afterAll (fixed b) (changing b) calls .floats) (afterAll (fixed b) (changing b) calls .words) 0
 
 -- ---- the trace, with an area for the list
 
 abbrev pub sourcesOf : Build → ℕ → List ℕ → Sources
-sourcesOf b slot area = sourcesAnswer (fixed b .plan) slot (fixed b .indices) (held b .words) (fixed b .steps) (length area)
+sourcesOf b slot area = sourcesAnswer (fixed b .plan) slot (fixed b .indices) (changing b .words) (fixed b .steps) (length area)
 
 abbrev pub listOf : Build → ℕ → List ℕ → List ℕ
-listOf b slot area = sourcesArea (fixed b .plan) slot (fixed b .indices) (held b .words) (fixed b .steps) area
+listOf b slot area = sourcesArea (fixed b .plan) slot (fixed b .indices) (changing b .words) (fixed b .steps) area
 
 -- ---- the plan check of one step, with 14 buffers and a node of 24 values, in areas that no builder laid out
 
 abbrev pub stepChecked : List ℕ → Answer
 stepChecked words =
-    checkPlan (record { block = 1; buffers = 14; indices = 14; coefficients = 0; nodes = 1; steps = 1; words = length words })
-    (areas (numbersFrom 0 14) [] (replicate 72 plusZero) (7 ∷ 24 ∷ 0 ∷ []) words (replicate 14 plusZero))
+    checkPlan (planWith 1 14 14 0 1 1 (length words))
+    (areas (numbersFrom 0 14) [] (floatsOf (zeroNode 7 24)) (wordsOf (zeroNode 7 24)) words (replicate 14 plusZero))

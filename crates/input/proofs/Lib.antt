@@ -3,4 +3,4 @@
 -- the channel lookup and the directory
 pub mod Input
 -- the first entry of each input
-pub mod Firsts
+pub mod Starts

@@ -7,6 +7,6 @@ use Rattle.plan.specs.Limits.{inputs}
 use Rattle.input.specs.Input.{entries, entryWord}
 
 -- for each input a place before which no entry is for it
-pub record Firsts (directory firsts : List ℕ) : Type 0 where
-  pub all : length firsts ≡ inputs
-  pub before : (input i : ℕ) → i < entries directory → i < getD firsts input 0 → entryWord directory i 0 ≡ input → ⊥
+pub record Starts (directory starts : List ℕ) : Type 0 where
+  pub all : length starts ≡ inputs
+  pub before : (input i : ℕ) → i < entries directory → i < getD starts input 0 → entryWord directory i 0 ≡ input → ⊥

@@ -8,14 +8,14 @@ ghost use lib.ListN.{length};
 ghost use Rattle.lists.specs.Parts.{part};
 ghost use Rattle.plan.specs.Limits.{inputs};
 ghost use Rattle.input.specs.Input.{entryWords, maxEntries, entries, entryFor, lookup, somePast, directoryBad};
-ghost use Rattle.input.specs.Loops.{Firsts};
+ghost use Rattle.input.specs.Loops.{Starts};
 
 const ENTRY_WORDS: usize = 4;
 
 const MAX_ENTRIES: usize = 512;
 
 // A place for each input, and one that lies past the last entry of any directory.
-pub const FIRSTS: usize = Step::INPUTS as usize;
+pub const STARTS: usize = Step::INPUTS as usize;
 
 pub const NO_ENTRY: u16 = MAX_ENTRIES as u16;
 
@@ -36,16 +36,16 @@ fn part(samples: &[f32], start: usize, len: usize) -> &[f32]
 
 // For each input a place before which no entry is for it: that of its first entry, or what was there where it has none. Requires a
 // directory that is not too long.
-pub fn first_entries(directory: &[u32], firsts: &mut [u16; FIRSTS])
-    requires { ⌜ (entries (now directory) ≤ maxEntries) × (length (now firsts) ≡ inputs) ⌝ }
-    ensures { λ _. ⌜ Firsts (now (directory .entry)) (now (firsts .exit)) ⌝ }
+pub fn search_starts(directory: &[u32], starts: &mut [u16; STARTS])
+    requires { ⌜ (entries (now directory) ≤ maxEntries) × (length (now starts) ≡ inputs) ⌝ }
+    ensures { λ _. ⌜ Starts (now (directory .entry)) (now (starts .exit)) ⌝ }
 {
     let mut entry = directory.len() / ENTRY_WORDS;
     while entry > 0 {
         entry -= 1;
         let input = directory[entry * ENTRY_WORDS];
         if input < Step::INPUTS {
-            firsts[input as usize] = entry as u16;
+            starts[input as usize] = entry as u16;
         }
     }
 }
@@ -78,17 +78,17 @@ fn lookup_from<'a>(
 }
 
 // The channel lookup from the first entry of the input on. Requires an input of a plan, and the first entries of the directory.
-pub fn lookup_first<'a>(
+pub fn lookup_by_start<'a>(
     directory: &[u32],
-    firsts: &[u16],
+    starts: &[u16],
     samples: &'a [f32],
     input: u32,
     channel: u32,
 ) -> &'a [f32]
-    requires { ⌜ (input < inputs) × Firsts (now directory) (now firsts) ⌝ }
+    requires { ⌜ (input < inputs) × Starts (now directory) (now starts) ⌝ }
     ensures { λ r. ⌜ now r ≡ lookup (now (directory .entry)) (now (samples .entry)) input channel ⌝ }
 {
-    let first = firsts[input as usize] as usize;
+    let first = starts[input as usize] as usize;
     lookup_from(directory, samples, first, input, channel)
 }
 

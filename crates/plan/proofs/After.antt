@@ -10,6 +10,7 @@ use lib.Seq.{take-add}
 use Rattle.refusal.specs.declared.Answer.the-variants.{Accepted}
 use Rattle.refusal.proofs.Laws.{accepted-none, none-accepted}
 use Rattle.plan.specs.declared.Plan.{Plan}
+use Rattle.plan.specs.PlanRecord.{planWith}
 use Rattle.plan.specs.Words.{decoded, decodedFrom}
 use Rattle.plan.specs.Check.{planTests, checked}
 use Rattle.plan.specs.Sound.{stepsOf, Passes}
@@ -20,16 +21,7 @@ use Rattle.plan.proofs.Grown.{Grew, passes-grown}
 
 -- a plan that counts m words more
 abbrev pub longer : ℕ → Plan → Plan
-longer m p =
-    record {
-      block = p .block;
-      buffers = p .buffers;
-      indices = p .indices;
-      coefficients = p .coefficients;
-      nodes = p .nodes;
-      steps = p .steps;
-      words = p .words + m;
-    }
+longer m p = planWith (p .block) (p .buffers) (p .indices) (p .coefficients) (p .nodes) (p .steps) (p .words + m)
 
 grew-longer : (m : ℕ) (p : Plan) → Grew p (longer m p)
 grew-longer m p = record { buffers = omega arith; indices = omega arith; coefficients = omega arith; nodes = omega arith }

@@ -9,14 +9,17 @@ use Rattle.lists.specs.Entries.{someFrom, has, meet}
 use Rattle.refusal.specs.Tests.{refusal}
 use Rattle.refusal.specs.declared.Answer.{Answer}
 use Rattle.refusal.specs.declared.Answer.the-variants.{Accepted, Refused}
+use Rattle.node.specs.Nodes.{zeroNode}
+use Rattle.node.specs.Areas.{floatsOf, wordsOf}
 use Rattle.plan.specs.Areas.{areas}
 use Rattle.plan.specs.Words.{patchMap, matrixMap, stepOf, readAt}
-use Rattle.plan.specs.Check.{idAmong, idTwice, outside, outsideBy, tooWide, shares, stepsTests, checked, checkPlan}
+use Rattle.plan.specs.Check.{idAmong, idTwice, outsideBy, tooWide, shares, stepsTests, checked, checkPlan}
+use Rattle.plan.specs.PlanRecord.{planWith}
 
 -- a block and nothing else
 abbrev blockOf : ℕ → Answer
 blockOf block =
-    checkPlan (record { block = block; buffers = 0; indices = 0; coefficients = 0; nodes = 0; steps = 0; words = 0 }) (areas [] [] [] [] [] [])
+    checkPlan (planWith block 0 0 0 0 0 0) (areas [] [] [] [] [] [])
 
 pub case-11-block-taken : blockOf 1024 ≡ Accepted
 unfolding checked someFrom idTwice stepsTests
@@ -29,22 +32,22 @@ case-11-block-refused = refl
 -- a Matrix with a node of 24 values, over the first of 14 buffers, with so many columns (src) and rows (dst)
 abbrev matrixOf : ℕ → ℕ → Answer
 matrixOf columns rows =
-    checkPlan (record { block = 1; buffers = 14; indices = 14; coefficients = 0; nodes = 1; steps = 1; words = 6 })
-    (areas (0 ∷ 1 ∷ 2 ∷ 3 ∷ 4 ∷ 5 ∷ 6 ∷ 7 ∷ 8 ∷ 9 ∷ 10 ∷ 11 ∷ 12 ∷ 13 ∷ []) [] (replicate 72 nan) (5 ∷ 24 ∷ 0 ∷ [])
+    checkPlan (planWith 1 14 14 0 1 1 6)
+    (areas (0 ∷ 1 ∷ 2 ∷ 3 ∷ 4 ∷ 5 ∷ 6 ∷ 7 ∷ 8 ∷ 9 ∷ 10 ∷ 11 ∷ 12 ∷ 13 ∷ []) [] (floatsOf (zeroNode 5 24)) (wordsOf (zeroNode 5 24))
     (matrixMap ∷ 0 ∷ 0 ∷ columns ∷ columns ∷ rows ∷ []) (replicate 14 nan))
 
 pub case-11-matrix-taken : matrixOf 12 2 ≡ Accepted
-unfolding checked someFrom idAmong idTwice stepsTests readAt stepOf ones onesIn outsideBy tooWide has meet shares
+unfolding checked someFrom idAmong idTwice floatsOf wordsOf stepsTests readAt stepOf ones onesIn outsideBy tooWide has meet shares
 case-11-matrix-taken = refl
 
 pub case-11-matrix-refused : matrixOf 5 5 ≡ Refused (refusal 7 1)
-unfolding checked someFrom idAmong idTwice stepsTests readAt stepOf ones onesIn outsideBy tooWide
+unfolding checked someFrom idAmong idTwice floatsOf wordsOf stepsTests readAt stepOf ones onesIn outsideBy tooWide
 case-11-matrix-refused = refl
 
 -- a Patch of an input to the only buffer
 abbrev patchOf : ℕ → Answer
 patchOf input =
-    checkPlan (record { block = 1; buffers = 1; indices = 0; coefficients = 0; nodes = 0; steps = 1; words = 4 })
+    checkPlan (planWith 1 1 0 0 0 1 4)
     (areas [] [] [] [] (patchMap ∷ input ∷ 0 ∷ 0 ∷ []) (nan ∷ []))
 
 pub case-11-input-taken : patchOf 255 ≡ Accepted

@@ -27,7 +27,7 @@ use Rattle.plan.proofs.Named.{channels-named}
 use Rattle.plan.proofs.Accepted.{all-placed}
 use Rattle.plan.specs.Loops.{channelsOf}
 use Rattle.input.specs.Input.{directoryBad}
-use Rattle.run.specs.Run.{Given, State, outputChannels, stepsOfRun, admission}
+use Rattle.run.specs.Run.{RunGiven, State, outputChannels, stepsOfRun, admission}
 use Rattle.run.specs.Loops.{Fit}
 
 -- ---- what the plan check's acceptance says
@@ -62,7 +62,7 @@ channels-same p indices coefficients [] i = refl
 channels-same p indices coefficients (x ∷ ss) i = rw (channels-named p indices coefficients x (i .0), channels-same p indices coefficients ss (i .1))
 
 -- ---- the answers
-module _ (g : Given) (s : State) where
+module _ (g : RunGiven) (s : State) where
   abbrev pub areas-of : Areas
   areas-of = areas (g .indices) (g .coefficients) (s .floats) (s .words) (g .steps) (s .buffers)
 
@@ -110,7 +110,7 @@ module _ (g : Given) (s : State) where
         by-none h = past-plan ∙ rw (no14, no12, output-needs, le-ltb (length (s .output)) (channelsOf (stepsOf (g .plan) (g .steps)) * g .plan .block) h)
 
 -- ---- what an accepted run says
-pub record Admitted (g : Given) (s : State) : Type 0 where
+pub record Admitted (g : RunGiven) (s : State) : Type 0 where
   pub plan : checkPlan (g .plan) (areas-of g s) ≡ Accepted
   pub fit : Fit (g .plan) (g .indices) (g .coefficients) s
   pub step-words : g .plan .words ≤ length (g .steps)
@@ -118,7 +118,7 @@ pub record Admitted (g : Given) (s : State) : Type 0 where
   pub directory : directoryBad (g .directory) (length (g .samples)) ≡ false
   pub output : channelsOf (stepsOf (g .plan) (g .steps)) * g .plan .block ≤ length (s .output)
 
-pub admitted : (g : Given) (s : State) → admission g s ≡ Accepted → Admitted g s
+pub admitted : (g : RunGiven) (s : State) → admission g s ≡ Accepted → Admitted g s
 unfolding admission checked
 admitted g s e =
     let t = accepted-none (plan-tests g s) (first (own-tests g s) Accepted) (sym (first-append (plan-tests g s) (own-tests g s) Accepted) ∙ e) in

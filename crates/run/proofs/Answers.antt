@@ -6,9 +6,9 @@ use Rattle.refusal.proofs.Laws.{outcome-accepted, outcome-refused}
 use Rattle.input.specs.Input.{lookup}
 use Rattle.run.specs.declared.Ran.{Ran}
 use Rattle.run.specs.declared.Ran.the-variants as ran
-use Rattle.run.specs.Run.{Given, State, runSteps, stepsOfRun, admission, processed, processAnswer}
+use Rattle.run.specs.Run.{RunGiven, State, runSteps, stepsOfRun, admission, processed, processAnswer}
 
-module _ (g : Given) (s : State) where
+module _ (g : RunGiven) (s : State) where
   abbrev pub stepped-all : State
   stepped-all = runSteps (g .plan .block) (lookup (g .directory) (g .samples)) (stepsOfRun g) s
 
@@ -33,7 +33,7 @@ module _ (g : Given) (s : State) where
     accepted-answers = outcome-accepted (admission g s) (ran.Wrote (processed g s .wrote)) ran.Refused e
 
 -- ---- the two ways out of the call, from the state t that it leaves
-module _ (g : Given) (s t : State) (answer : Ran) where
+module _ (g : RunGiven) (s t : State) (answer : Ran) where
   abbrev Returned : Type 0
   Returned = (answer ≡ processAnswer g s)
       × ((t .floats ≡ processed g s .floats) × ((t .words ≡ processed g s .words) × ((t .buffers ≡ processed g s .buffers) × (t .output ≡ processed g s .output))))

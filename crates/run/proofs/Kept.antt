@@ -14,28 +14,28 @@ use Rattle.mix.proofs.Put.{put-other}
 use Rattle.mix.proofs.Laws.{not-first, gained-other, rows-other, sends-other, cleared-other, appended-past}
 use Rattle.plan.specs.Resolved.{Resolved, patch, gain, matrix, clear, send, output}
 use Rattle.input.specs.Input.{lookup}
-use Rattle.run.specs.Run.{Given, State, stepped, runSteps, stepsOfRun, admission, processed}
+use Rattle.run.specs.Run.{RunGiven, State, stepped, runSteps, stepsOfRun, admission, processed}
 use Rattle.run.proofs.Answers.{accepted-runs, refused-keeps}
 use Rattle.run.proofs.States.{SameLengths, run-lengths}
 
 -- the buffers that a step writes
-abbrev pub written : Resolved → List ℕ
-written (patch i c d) = d ∷ []
-written (gain n src dst) = used dst src
-written (matrix n src dst) = dst
-written (clear dst) = dst
-written (send n src dst weights) = dst
-written (output src slot) = []
+abbrev pub dstUsed : Resolved → List ℕ
+dstUsed (patch i c d) = d ∷ []
+dstUsed (gain n src dst) = used dst src
+dstUsed (matrix n src dst) = dst
+dstUsed (clear dst) = dst
+dstUsed (send n src dst weights) = dst
+dstUsed (output src slot) = []
 
 -- none of the steps writes buffer b
 abbrev pub Unwritten : ℕ → List Resolved → Type 0
 Unwritten b [] = Unit {0}
-Unwritten b (x ∷ xs) = NotIn b (written x) × Unwritten b xs
+Unwritten b (x ∷ xs) = NotIn b (dstUsed x) × Unwritten b xs
 
 module _ (block : ℕ) (input : ℕ → ℕ → List Float) where
   -- ---- sample k of a buffer b that no step writes
   module _ (b k : ℕ) (h : k < block) where
-    step-other : (x : Resolved) (s : State) → NotIn b (written x) → sample block (stepped block input x s .buffers) b k ≡ sample block (s .buffers) b k
+    step-other : (x : Resolved) (s : State) → NotIn b (dstUsed x) → sample block (stepped block input x s .buffers) b k ≡ sample block (s .buffers) b k
     unfolding stepped
     step-other (patch i c d) s o = put-other block d _ (s .buffers) b k (not-first [] o) h
     step-other (gain n src dst) s o = gained-other block b k h _ 0 src dst (s .buffers) o
@@ -81,7 +81,7 @@ module _ (block : ℕ) (input : ℕ → ℕ → List Float) where
       ∙ step-past x s i (omega (arith, h, steps-grow xs (stepped block input x s)))
 
 -- ---- the call, refused or not
-module _ (g : Given) (s : State) where
+module _ (g : RunGiven) (s : State) where
   abbrev block : ℕ
   block = g .plan .block
 

@@ -28,8 +28,8 @@ use Rattle.plan.specs.Resolved.{Resolved, nodeNamed}
 use Rattle.input.specs.Input.{lookup}
 use Rattle.setting.specs.Setting.{nodeOf, settingWords}
 use Rattle.setting.proofs.Setting.{node-named, node-only, settable, words-accepted, words-refused}
-use Rattle.run.specs.Run.{Given, State, stepped, runSteps, finished, admission, processed}
-use Rattle.run.specs.Calls.{Fixed, Held, Call, set, run, givenTo, start, answer, after, afterAll, runs, NotSet, stepsOfPlan, uses}
+use Rattle.run.specs.Run.{RunGiven, State, stepped, runSteps, finished, admission, processed}
+use Rattle.run.specs.Calls.{Fixed, Changing, Call, set, run, givenTo, start, answer, after, afterAll, runs, NotSet, stepsOfPlan, uses}
 use Rattle.run.proofs.Answers.{accepted-runs, refused-keeps}
 use Rattle.run.proofs.States.{ends, step-nodes}
 use Rattle.run.proofs.Admitted.{areas-of, admitted}
@@ -110,8 +110,8 @@ Has n i r words = (idAt words n ≡ i) × (leftAt words n ≡ r)
 
 module _ (f : Fixed) (n i : ℕ) (inside : n < f .plan .nodes) (once : uses n (stepsOfPlan f) ≡ 1) where
   -- a run takes a block off where it is accepted
-  module _ (h : Held) (r : ℕ) (directory : List ℕ) (samples out : List Float) (p : Has n i r (h .words)) where
-    abbrev g : Given
+  module _ (h : Changing) (r : ℕ) (directory : List ℕ) (samples out : List Float) (p : Has n i r (h .words)) where
+    abbrev g : RunGiven
     g = givenTo f directory samples
 
     abbrev s : State
@@ -135,7 +135,7 @@ module _ (f : Fixed) (n i : ℕ) (inside : n < f .plan .nodes) (once : uses n (s
         go (Refused q) e = rw (zero-mul, sub-zero) (kept q e)
 
   -- a setting of another id takes nothing
-  set-left : (h : Held) (r id : ℕ) (values : List Float) (ramp : ℕ) → Has n i r (h .words) → (answer f h (set id values ramp) ≡ Accepted → i ≡ id → ⊥)
+  set-left : (h : Changing) (r id : ℕ) (values : List Float) (ramp : ℕ) → Has n i r (h .words) → (answer f h (set id values ramp) ≡ Accepted → i ≡ id → ⊥)
       → Has n i r (after f h (set id values ramp) .words)
   set-left h r id values ramp p other = go (answer f h (set id values ramp)) refl
     where
@@ -157,7 +157,7 @@ module _ (f : Fixed) (n i : ℕ) (inside : n < f .plan .nodes) (once : uses n (s
       go (Refused q) e = rw (words-refused count id values ramp (h .floats) (h .words) e) p
 
   -- The theorem: node n, which one step uses, has the id i and r samples left. No accepted setting of the list is of its id.
-  pub ramp-left : (cs : List Call) (h : Held) (r : ℕ) → idAt (h .words) n ≡ i → leftAt (h .words) n ≡ r → NotSet f i h cs
+  pub ramp-left : (cs : List Call) (h : Changing) (r : ℕ) → idAt (h .words) n ≡ i → leftAt (h .words) n ≡ r → NotSet f i h cs
       → leftAt (afterAll f h cs .words) n ≡ r - runs f h cs * f .plan .block
   ramp-left [] h r p q o = q ∙ sym (ap (λ (k : ℕ). r - k) (zero-mul (f .plan .block)) ∙ sub-zero r)
   ramp-left (set id values ramp ∷ cs) h r p q o =
@@ -169,7 +169,7 @@ module _ (f : Fixed) (n i : ℕ) (inside : n < f .plan .nodes) (once : uses n (s
       ∙ less r (outcome (answer f h (run directory samples out)) 1 (λ _. 0)) (runs f (after f h (run directory samples out)) cs) (f .plan .block)
 
   -- an accepted setting of its id leaves r
-  own-set : (h : Held) (values : List Float) (r : ℕ) → idAt (h .words) n ≡ i → answer f h (set i values r) ≡ Accepted
+  own-set : (h : Changing) (values : List Float) (r : ℕ) → idAt (h .words) n ≡ i → answer f h (set i values r) ≡ Accepted
       → Has n i r (after f h (set i values r) .words)
   unfolding nodeAt
   own-set h values r p e =
@@ -184,7 +184,7 @@ module _ (f : Fixed) (n i : ℕ) (inside : n < f .plan .nodes) (once : uses n (s
 
   -- The theorem from a setting on: node n, which one step uses, has the id i, and an accepted setting gives it the ramp r. No accepted setting behind it is
   -- of its id.
-  pub set-ramp : (h : Held) (values : List Float) (r : ℕ) → idAt (h .words) n ≡ i → answer f h (set i values r) ≡ Accepted → (cs : List Call)
+  pub set-ramp : (h : Changing) (values : List Float) (r : ℕ) → idAt (h .words) n ≡ i → answer f h (set i values r) ≡ Accepted → (cs : List Call)
       → NotSet f i (after f h (set i values r)) cs
       → leftAt (afterAll f h (set i values r ∷ cs) .words) n ≡ r - runs f h (set i values r ∷ cs) * f .plan .block
   set-ramp h values r p e cs o = let t = own-set h values r p e in ramp-left cs (after f h (set i values r)) r (t .0) (t .1) o

@@ -35,8 +35,8 @@ use Rattle.plan.proofs.Named.{node-inside}
 use Rattle.input.specs.Input.{lookup, directoryBad}
 use Rattle.setting.specs.Setting.{nodeOf, settingAnswer}
 use Rattle.setting.proofs.Setting.{Settable, settable, node-named, floats-accepted, floats-refused, words-accepted, words-refused, node-good}
-use Rattle.run.specs.Run.{Given, State, outputChannels, admission, processed, runSteps}
-use Rattle.run.specs.Calls.{Fixed, Held, held, Call, set, run, givenTo, start, answer, after, afterAll, stepsOfPlan}
+use Rattle.run.specs.Run.{RunGiven, State, outputChannels, admission, processed, runSteps}
+use Rattle.run.specs.Calls.{Fixed, Changing, changing, Call, set, run, givenTo, start, answer, after, afterAll, stepsOfPlan}
 use Rattle.run.proofs.Answers.{accepted-runs, refused-keeps}
 use Rattle.run.proofs.States.{Good, good-stored, good-run, run-lengths, NodesBelow}
 use Rattle.run.proofs.Admitted.{tested}
@@ -51,7 +51,7 @@ first-same ts us rest e = go (first us Accepted) refl
 
 -- ---- the areas of a plan
 
-abbrev pub areasOf : Fixed → Held → Areas
+abbrev pub areasOf : Fixed → Changing → Areas
 areasOf f h = areas (f .indices) (f .coefficients) (h .floats) (h .words) (f .steps) (h .buffers)
 
 -- the tests of a run: the plan's, then 14, then 12 and 13, which are about the input block and the output area alone
@@ -59,32 +59,32 @@ abbrev pub inputTests : Fixed → List ℕ → List Float → List Float → Lis
 inputTests f directory samples out =
     test badDirectory (directoryBad directory (length samples)) ∷ test shortOutput (ltb (length out) (outputChannels (stepsOfPlan f) * f .plan .block)) ∷ []
 
-abbrev planTestsOf : Fixed → Held → List Test
+abbrev planTestsOf : Fixed → Changing → List Test
 planTestsOf f h = planTests (f .plan) (shortAreas (f .plan) (areasOf f h)) (f .indices) (h .words) (f .steps)
 
-abbrev nodeTest : Fixed → Held → Test
+abbrev nodeTest : Fixed → Changing → Test
 nodeTest f h = test badNode (someBad (h .words) (f .plan .nodes))
 
-in-turn : (f : Fixed) (h : Held) (directory : List ℕ) (samples out : List Float)
+in-turn : (f : Fixed) (h : Changing) (directory : List ℕ) (samples out : List Float)
     → admission (givenTo f directory samples) (start f h out) ≡ first (planTestsOf f h) (first (nodeTest f h ∷ inputTests f directory samples out) Accepted)
 unfolding admission
 in-turn f h directory samples out = first-append (planTestsOf f h) (nodeTest f h ∷ inputTests f directory samples out) Accepted
 
 -- areas as long as they were, and the same ids
-pub record Alike (f : Fixed) (h t : Held) : Type 0 where
+pub record Alike (f : Fixed) (h t : Changing) : Type 0 where
   pub floats : length (t .floats) ≡ length (h .floats)
   pub words : length (t .words) ≡ length (h .words)
   pub buffers : length (t .buffers) ≡ length (h .buffers)
   pub ids : (i : ℕ) → i < f .plan .nodes → idAt (t .words) i ≡ idAt (h .words) i
 
 -- the plan check answers the same
-pub alike-checked : (f : Fixed) (h t : Held) → Alike f h t → checkPlan (f .plan) (areasOf f t) ≡ checkPlan (f .plan) (areasOf f h)
+pub alike-checked : (f : Fixed) (h t : Changing) → Alike f h t → checkPlan (f .plan) (areasOf f t) ≡ checkPlan (f .plan) (areasOf f h)
 alike-checked f h t a =
     rw (a .floats, a .words, a .buffers)
     (check-front (f .plan) (shortAreas (f .plan) (areasOf f h)) (f .indices) (f .indices) (t .words) (h .words) (f .steps) (f .steps) refl (a .ids) refl)
 
 -- and the admission, where number 14 does
-pub alike-admitted : (f : Fixed) (h t : Held) → Alike f h t → someBad (t .words) (f .plan .nodes) ≡ someBad (h .words) (f .plan .nodes)
+pub alike-admitted : (f : Fixed) (h t : Changing) → Alike f h t → someBad (t .words) (f .plan .nodes) ≡ someBad (h .words) (f .plan .nodes)
     → (directory : List ℕ) (samples out : List Float)
     → admission (givenTo f directory samples) (start f t out) ≡ admission (givenTo f directory samples) (start f h out)
 unfolding checked
@@ -97,7 +97,7 @@ alike-admitted f h t a b directory samples out =
 
 -- ---- a setting
 
-module _ (f : Fixed) (h : Held) (id : ℕ) (values : List Float) (ramp : ℕ) (e : answer f h (set id values ramp) ≡ Accepted) where
+module _ (f : Fixed) (h : Changing) (id : ℕ) (values : List Float) (ramp : ℕ) (e : answer f h (set id values ramp) ≡ Accepted) where
   abbrev count : ℕ
   count = f .plan .nodes
 
@@ -137,12 +137,12 @@ module _ (f : Fixed) (h : Held) (id : ℕ) (values : List Float) (ramp : ℕ) (e
 -- ---- a plan that stays accepted
 
 -- the plan's own tests and 14 pass
-pub record Ready (f : Fixed) (h : Held) : Type 0 where
+pub record Ready (f : Fixed) (h : Changing) : Type 0 where
   pub plan : checkPlan (f .plan) (areasOf f h) ≡ Accepted
   pub nodes : someBad (h .words) (f .plan .nodes) ≡ false
 
 -- so it is once a run was accepted
-pub accepted-ready : (f : Fixed) (h : Held) (directory : List ℕ) (samples out : List Float) → answer f h (run directory samples out) ≡ Accepted → Ready f h
+pub accepted-ready : (f : Fixed) (h : Changing) (directory : List ℕ) (samples out : List Float) → answer f h (run directory samples out) ≡ Accepted → Ready f h
 unfolding checked
 accepted-ready f h directory samples out e =
     let own = nodeTest f h ∷ inputTests f directory samples out in
@@ -150,7 +150,7 @@ accepted-ready f h directory samples out e =
     record { plan = none-accepted (planTestsOf f h) (t .0); nodes = accepted-none own Accepted (t .1) .0 .0 }
 
 -- and then only 12 and 13 are left to the admission
-pub ready-only : (f : Fixed) (h : Held) → Ready f h → (directory : List ℕ) (samples out : List Float)
+pub ready-only : (f : Fixed) (h : Changing) → Ready f h → (directory : List ℕ) (samples out : List Float)
     → admission (givenTo f directory samples) (start f h out) ≡ first (inputTests f directory samples out) Accepted
 unfolding checked
 ready-only f h r directory samples out =
@@ -165,11 +165,11 @@ below p indices coefficients [] o = tt
 below p indices coefficients (x ∷ ss) o = (node-inside p indices coefficients x (o .0), below p indices coefficients ss (o .1))
 
 module _ (f : Fixed) where
-  alike-ready : (h t : Held) → Ready f h → Alike f h t → someBad (t .words) (f .plan .nodes) ≡ false → Ready f t
+  alike-ready : (h t : Changing) → Ready f h → Alike f h t → someBad (t .words) (f .plan .nodes) ≡ false → Ready f t
   alike-ready h t r a b = record { plan = alike-checked f h t a ∙ r .plan; nodes = b }
 
-  module _ (h : Held) (directory : List ℕ) (samples out : List Float) (r : Ready f h) where
-    abbrev g : Given
+  module _ (h : Changing) (directory : List ℕ) (samples out : List Float) (r : Ready f h) where
+    abbrev g : RunGiven
     g = givenTo f directory samples
 
     abbrev s : State
@@ -178,23 +178,23 @@ module _ (f : Fixed) where
     abbrev t : State
     t = runSteps (f .plan .block) (lookup directory samples) (stepsOfPlan f) s
 
-    ran-ready : Ready f (held t)
+    ran-ready : Ready f (changing t)
     ran-ready =
         let l = run-lengths (f .plan .block) (lookup directory samples) (stepsOfPlan f) s in
         let inside = accepted-sound (f .plan) (shortAreas (f .plan) (areasOf f h)) (f .indices) (h .words) (f .steps) (r .plan) .inside in
         let good = good-run (f .plan .nodes) (idAt (h .words)) (f .plan .block) (lookup directory samples) (stepsOfPlan f) s
         (record { room = accepted-room (f .plan) (areasOf f h) (r .plan) .words; ids-are = λ i l. refl; none-bad = r .nodes })
         (below (f .plan) (f .indices) (f .coefficients) (stepsOf (f .plan) (f .steps)) inside) in
-        alike-ready h (held t) r (record { floats = l .floats; words = l .words; buffers = l .buffers; ids = good .ids-are }) (good .none-bad)
+        alike-ready h (changing t) r (record { floats = l .floats; words = l .words; buffers = l .buffers; ids = good .ids-are }) (good .none-bad)
 
     run-ready : Ready f (after f h (run directory samples out))
     run-ready = go (admission g s) refl
       where
-        go : (a : Answer) → admission g s ≡ a → Ready f (held (processed g s))
+        go : (a : Answer) → admission g s ≡ a → Ready f (changing (processed g s))
         go Accepted e = rw (accepted-runs g s e) ran-ready
         go (Refused q) e = rw (refused-keeps g s e) r
 
-  set-ready : (h : Held) (id : ℕ) (values : List Float) (ramp : ℕ) → Ready f h → Ready f (after f h (set id values ramp))
+  set-ready : (h : Changing) (id : ℕ) (values : List Float) (ramp : ℕ) → Ready f h → Ready f (after f h (set id values ramp))
   set-ready h id values ramp r = go (answer f h (set id values ramp)) refl
     where
       go : (a : Answer) → answer f h (set id values ramp) ≡ a → Ready f (after f h (set id values ramp))
@@ -203,13 +203,13 @@ module _ (f : Fixed) where
           rw (floats-refused (f .plan .nodes) id values ramp (h .floats) (h .words) e, words-refused (f .plan .nodes) id values ramp (h .floats) (h .words) e) r
 
   -- The theorem: whatever settings and runs follow, refused or not, the plan's own tests and 14 pass.
-  pub stays-ready : (cs : List Call) (h : Held) → Ready f h → Ready f (afterAll f h cs)
+  pub stays-ready : (cs : List Call) (h : Changing) → Ready f h → Ready f (afterAll f h cs)
   stays-ready [] h r = r
   stays-ready (set id values ramp ∷ cs) h r = stays-ready cs (after f h (set id values ramp)) (set-ready h id values ramp r)
   stays-ready (run directory samples out ∷ cs) h r = stays-ready cs (after f h (run directory samples out)) (run-ready h directory samples out r)
 
   -- so a run that is accepted is accepted after any of them too
-  pub still-admitted : (h : Held) (cs : List Call) (directory : List ℕ) (samples out : List Float)
+  pub still-admitted : (h : Changing) (cs : List Call) (directory : List ℕ) (samples out : List Float)
       → admission (givenTo f directory samples) (start f h out) ≡ Accepted
       → admission (givenTo f directory samples) (start f (afterAll f h cs) out) ≡ Accepted
   still-admitted h cs directory samples out e =
@@ -217,7 +217,7 @@ module _ (f : Fixed) where
       ready-only f (afterAll f h cs) (stays-ready cs h r) directory samples out ∙ sym (ready-only f h r directory samples out) ∙ e
 
   -- and of a setting whose ramp is not too long only the id can be refused
-  pub only-unknown : (h : Held) → Ready f h → (id : ℕ) (values : List Float) (ramp : ℕ) → rampTooLong ramp ≡ false
+  pub only-unknown : (h : Changing) → Ready f h → (id : ℕ) (values : List Float) (ramp : ℕ) → rampTooLong ramp ≡ false
       → answer f h (set id values ramp) ≡ cond (idAmong (h .words) (f .plan .nodes) id) Accepted (Refused (refusal unknownId 0))
   unfolding settingAnswer
   only-unknown h r id values ramp ok =
@@ -232,12 +232,12 @@ module _ (f : Fixed) where
       go false = refl
 
   -- a refused run changes nothing
-  pub refused-run : (h : Held) (directory : List ℕ) (samples out : List Float) (q : Refusal) → answer f h (run directory samples out) ≡ Refused q
+  pub refused-run : (h : Changing) (directory : List ℕ) (samples out : List Float) (q : Refusal) → answer f h (run directory samples out) ≡ Refused q
       → processed (givenTo f directory samples) (start f h out) ≡ start f h out
   refused-run h directory samples out q e = refused-keeps (givenTo f directory samples) (start f h out) e
 
   -- nor does a refused setting
-  pub refused-set : (h : Held) (id : ℕ) (values : List Float) (ramp : ℕ) (q : Refusal) → answer f h (set id values ramp) ≡ Refused q
+  pub refused-set : (h : Changing) (id : ℕ) (values : List Float) (ramp : ℕ) (q : Refusal) → answer f h (set id values ramp) ≡ Refused q
       → after f h (set id values ramp) ≡ h
   refused-set h id values ramp q e =
       rw (floats-refused (f .plan .nodes) id values ramp (h .floats) (h .words) e, words-refused (f .plan .nodes) id values ramp (h .floats) (h .words) e)

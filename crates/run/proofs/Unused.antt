@@ -23,7 +23,7 @@ use Rattle.plan.specs.Resolved.{Resolved, nodeNamed}
 use Rattle.plan.proofs.Exact.{accepted-sound}
 use Rattle.plan.proofs.Accepted.{accepted-room}
 use Rattle.input.specs.Input.{lookup}
-use Rattle.run.specs.Run.{Given, State, stepped, runSteps, finished, stepsOfRun, admission, processed}
+use Rattle.run.specs.Run.{RunGiven, State, stepped, runSteps, finished, stepsOfRun, admission, processed}
 use Rattle.run.specs.Calls.{uses}
 use Rattle.run.proofs.Answers.{accepted-runs, refused-keeps}
 use Rattle.run.proofs.States.{ends, step-nodes, NodesBelow}
@@ -86,7 +86,7 @@ module _ (count m : ℕ) where
   past-unused h (x ∷ xs) b = rw (none-past h (nodeNamed x) (b .0), past-unused h xs (b .1))
 
 -- ---- the call, refused or not
-module _ (g : Given) (s : State) (m : ℕ) where
+module _ (g : RunGiven) (s : State) (m : ℕ) where
   accepted-below : admission g s ≡ Accepted → NodesBelow (g .plan .nodes) (stepsOfRun g)
   accepted-below e =
       let a = areas-of g s in

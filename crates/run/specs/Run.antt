@@ -22,7 +22,7 @@ use Rattle.run.specs.declared.Ran.{Ran}
 use Rattle.run.specs.declared.Ran.the-variants as ran
 
 -- what a run only reads
-pub record Given : Type 0 where
+pub record RunGiven : Type 0 where
   pub plan : Plan
   pub indices : List ℕ
   pub coefficients : List Float
@@ -30,7 +30,7 @@ pub record Given : Type 0 where
   pub directory : List ℕ
   pub samples : List Float
 
-abbrev pub given : Plan → List ℕ → List Float → List ℕ → List ℕ → List Float → Given
+abbrev pub given : Plan → List ℕ → List Float → List ℕ → List ℕ → List Float → RunGiven
 given p indices coefficients steps directory samples =
     record { plan = p; indices = indices; coefficients = coefficients; steps = steps; directory = directory; samples = samples }
 
@@ -83,10 +83,10 @@ unfoldable pub outputChannels : List Resolved → ℕ
 outputChannels [] = 0
 outputChannels (x ∷ xs) = channelsOut x + outputChannels xs
 
-abbrev pub stepsOfRun : Given → List Resolved
+abbrev pub stepsOfRun : RunGiven → List Resolved
 stepsOfRun g = resolvedSteps (g .plan) (g .indices) (g .coefficients) (g .steps)
 
-abbrev pub runTests : Given → State → List Test
+abbrev pub runTests : RunGiven → State → List Test
 runTests g s =
     planTests (g .plan) (shortAreas (g .plan) (areas (g .indices) (g .coefficients) (s .floats) (s .words) (g .steps) (s .buffers))) (g .indices) (s .words) (g .steps)
     ++ test badNode (someBad (s .words) (g .plan .nodes))
@@ -94,18 +94,18 @@ runTests g s =
     ∷ test shortOutput (ltb (length (s .output)) (outputChannels (stepsOfRun g) * g .plan .block))
     ∷ []
 
-unfoldable pub admission : Given → State → Answer
+unfoldable pub admission : RunGiven → State → Answer
 unfolding directoryBad outputChannels
 admission g s = first (runTests g s) Accepted
 
 -- ---- the call
 
 -- the state after it, refused or not; `wrote` is 0 at its start
-unfoldable pub processed : Given → State → State
+unfoldable pub processed : RunGiven → State → State
 unfolding admission runSteps lookup
 processed g s = outcome (admission g s) (runSteps (g .plan .block) (lookup (g .directory) (g .samples)) (stepsOfRun g) s) (λ _. s)
 
 -- what it answers: the samples written, or the refusal
-unfoldable pub processAnswer : Given → State → Ran
+unfoldable pub processAnswer : RunGiven → State → Ran
 unfolding admission processed
 processAnswer g s = outcome (admission g s) (ran.Wrote (processed g s .wrote)) ran.Refused

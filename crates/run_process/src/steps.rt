@@ -18,7 +18,7 @@ ghost use Rattle.plan.specs.Sound.{Passes};
 ghost use Rattle.plan.specs.Resolved.{resolved};
 ghost use Rattle.plan.specs.Loops.{channels, channelsOf};
 ghost use Rattle.input.specs.Input.{maxEntries, entries, lookup};
-ghost use Rattle.input.specs.Loops.{Firsts};
+ghost use Rattle.input.specs.Loops.{Starts};
 ghost use Rattle.run.specs.Run.{state, stepped, runSteps};
 ghost use Rattle.run.specs.Loops.{Fit, FitStep};
 
@@ -32,14 +32,14 @@ fn run_step(
     words: &mut [u32],
     buffers: &mut [f32],
     directory: &[u32],
-    firsts: &[u16],
+    starts: &[u16],
     samples: &[f32],
     output: &mut [f32],
     wrote: usize,
     step: Step,
 ) -> usize
     requires { ⌜ FitStep plan (now indices) (now coefficients) (state (now floats) (now words) (now buffers) (now output) wrote) step × (wrote + channels step * plan .block ≤ length (now output)) ⌝ }
-    requires { ⌜ Firsts (now directory) (now firsts) ⌝ }
+    requires { ⌜ Starts (now directory) (now starts) ⌝ }
     ensures { λ r. ⌜ state (now (floats .exit)) (now (words .exit)) (now (buffers .exit)) (now (output .exit)) r
         ≡ stepped (plan .block) (lookup (now (directory .entry)) (now (samples .entry))) (resolved plan (now (indices .entry)) (now (coefficients .entry)) step) (state (now (floats .entry)) (now (words .entry)) (now (buffers .entry)) (now (output .entry)) wrote) ⌝ }
 {
@@ -49,7 +49,7 @@ fn run_step(
             channel,
             dst,
         } => {
-            let part = input::lookup_first(directory, firsts, samples, input, channel);
+            let part = input::lookup_by_start(directory, starts, samples, input, channel);
             patch(buffers, plan.block, dst as usize, part);
         }
         Step::Gain { node, src, dst } => {
@@ -86,12 +86,12 @@ fn run_steps(
     steps: &[u32],
     buffers: &mut [f32],
     directory: &[u32],
-    firsts: &[u16],
+    starts: &[u16],
     samples: &[f32],
     output: &mut [f32],
 ) -> usize
     requires { ⌜ Fit plan (now indices) (now coefficients) (state (now floats) (now words) (now buffers) (now output) 0) × Passes plan (now indices) (now steps) (plan .steps) 0 ⌝ }
-    requires { ⌜ Firsts (now directory) (now firsts) ⌝ }
+    requires { ⌜ Starts (now directory) (now starts) ⌝ }
     requires { ⌜ channelsOf (decoded (now steps) (plan .steps)) * plan .block ≤ length (now output) ⌝ }
     ensures { λ r. ⌜ state (now (floats .exit)) (now (words .exit)) (now (buffers .exit)) (now (output .exit)) r
         ≡ runSteps (plan .block) (lookup (now (directory .entry)) (now (samples .entry))) (map (resolved plan (now (indices .entry)) (now (coefficients .entry))) (decoded (now (steps .entry)) (plan .steps))) (state (now (floats .entry)) (now (words .entry)) (now (buffers .entry)) (now (output .entry)) 0) ⌝ }
@@ -110,7 +110,7 @@ fn run_steps(
             words,
             buffers,
             directory,
-            firsts,
+            starts,
             samples,
             output,
             wrote,
@@ -140,8 +140,8 @@ pub fn run_block(
         ≡ runSteps (plan .block) (lookup (now (directory .entry)) (now (samples .entry))) (map (resolved plan (now (indices .entry)) (now (coefficients .entry))) (decoded (now (steps .entry)) (plan .steps))) (state (now (floats .entry)) (now (words .entry)) (now (buffers .entry)) (now (output .entry)) 0) ⌝ }
 {
     // So that a Patch starts at the first entry of its input; an input without one has a place past the last entry.
-    let mut firsts = [input::NO_ENTRY; input::FIRSTS];
-    input::first_entries(directory, &mut firsts);
+    let mut starts = [input::NO_ENTRY; input::STARTS];
+    input::search_starts(directory, &mut starts);
     run_steps(
         plan,
         indices,
@@ -151,7 +151,7 @@ pub fn run_block(
         steps,
         buffers,
         directory,
-        &firsts[..],
+        &starts[..],
         samples,
         output,
     )

@@ -61,19 +61,19 @@ module _ (b₁ k₁ b₂ k₂ : ℕ) (h₁ : k₁ < b₁) (h₂ : k₂ < b₂) w
 
   module _ (m : ℕ) where
     -- both areas have m buffers
-    pub record Hold (area₁ area₂ : List Float) : Type 0 where
+    pub record BufferRoom (area₁ area₂ : List Float) : Type 0 where
       pub first : m * b₁ ≤ length area₁
       pub second : m * b₂ ≤ length area₂
 
     -- From two areas to two others: what agreed still does, and buffers with P agree.
     pub record Paired (P : ℕ → Type 0) (old₁ old₂ new₁ new₂ : List Float) : Type 0 where
-      pub hold : Hold new₁ new₂
+      pub hold : BufferRoom new₁ new₂
       pub kept : (b : ℕ) → Agree old₁ old₂ b → Agree new₁ new₂ b
       pub made : (b : ℕ) → P b → Agree new₁ new₂ b
 
     -- ---- one buffer written
-    module _ {area₁ area₂ : List Float} (d : ℕ) (below : d < m) (hold : Hold area₁ area₂) (f₁ f₂ : ℕ → Float) where
-      hold-put : Hold (put b₁ d f₁ area₁) (put b₂ d f₂ area₂)
+    module _ {area₁ area₂ : List Float} (d : ℕ) (below : d < m) (hold : BufferRoom area₁ area₂) (f₁ f₂ : ℕ → Float) where
+      hold-put : BufferRoom (put b₁ d f₁ area₁) (put b₂ d f₂ area₂)
       hold-put = record { first = rw (length-put b₁ d f₁ area₁) (hold .first); second = rw (length-put b₂ d f₂ area₂) (hold .second) }
 
       put-here : f₁ k₁ ≡ f₂ k₂ → Agree (put b₁ d f₁ area₁) (put b₂ d f₂ area₂) d
@@ -97,7 +97,7 @@ module _ (b₁ k₁ b₂ k₂ : ℕ) (h₁ : k₁ < b₁) (h₂ : k₂ < b₂) w
       put-more e = record { hold = hold-put; kept = put-kept e; made = λ b p. absurd p }
 
     -- ---- one after the other
-    nothing : {area₁ area₂ : List Float} → Hold area₁ area₂ → Paired (λ b. ⊥) area₁ area₂ area₁ area₂
+    nothing : {area₁ area₂ : List Float} → BufferRoom area₁ area₂ → Paired (λ b. ⊥) area₁ area₂ area₁ area₂
     nothing h = record { hold = h; kept = λ b g. g; made = λ b p. absurd p }
 
     then : {P Q R : ℕ → Type 0} {o₁ o₂ p₁ p₂ n₁ n₂ : List Float} → Paired P o₁ o₂ p₁ p₂ → Paired Q p₁ p₂ n₁ n₂ → ((b : ℕ) → R b → P b ⊎ Q b) → Paired R o₁ o₂ n₁ n₂
@@ -121,7 +121,7 @@ module _ (b₁ k₁ b₂ k₂ : ℕ) (h₁ : k₁ < b₁) (h₂ : k₂ < b₂) w
 
     -- ---- the steps: the sources agree, and the buffers written are among the m
     module _ (gain : ℕ → Gain) (even : (i : ℕ) → factor (gain i) k₁ ≡ factor (gain i) k₂) where
-      pub gained-paired : (c : ℕ) (src dst : List ℕ) (area₁ area₂ : List Float) → Hold area₁ area₂ → All (λ d. d < m) dst → All (Agree area₁ area₂) src → length dst ≤ length src
+      pub gained-paired : (c : ℕ) (src dst : List ℕ) (area₁ area₂ : List Float) → BufferRoom area₁ area₂ → All (λ d. d < m) dst → All (Agree area₁ area₂) src → length dst ≤ length src
           → Paired (λ b. has dst b ≡ true) area₁ area₂ (gained b₁ gain c src dst area₁) (gained b₂ gain c src dst area₂)
       unfolding gained
       gained-paired c [] [] area₁ area₂ h below agree l = record { hold = h; kept = λ b g. g; made = λ b e. absurd (none-there b e) }
@@ -133,7 +133,7 @@ module _ (b₁ k₁ b₂ k₂ : ℕ) (h₁ : k₁ < b₁) (h₂ : k₂ < b₂) w
           then p (gained-paired (suc c) src dst (scale b₁ (gain c) s d area₁) (scale b₂ (gain c) s d area₂) (p .hold) (below .1) (all-map (p .kept) src (agree .1)) (le-of-suc-le-suc l))
           (first-or-later d dst)
 
-      columns-paired : (v : ℕ) (src : List ℕ) (d : ℕ) (area₁ area₂ : List Float) → Hold area₁ area₂ → d < m → All (Agree area₁ area₂) src
+      columns-paired : (v : ℕ) (src : List ℕ) (d : ℕ) (area₁ area₂ : List Float) → BufferRoom area₁ area₂ → d < m → All (Agree area₁ area₂) src
           → Paired (λ b. ⊥) area₁ area₂ (columns b₁ gain v src d area₁) (columns b₂ gain v src d area₂)
       unfolding columns
       columns-paired v [] d area₁ area₂ h below agree = nothing h
@@ -142,7 +142,7 @@ module _ (b₁ k₁ b₂ k₂ : ℕ) (h₁ : k₁ < b₁) (h₂ : k₂ < b₂) w
           (λ g. added-same k₁ k₂ (gain v) (even v) (agree .0) g) in
           then p (columns-paired (suc v) src d (mixIn b₁ (gain v) s d area₁) (mixIn b₂ (gain v) s d area₂) (p .hold) below (all-map (p .kept) src (agree .1))) (λ b e. inl e)
 
-      pub rows-paired : (v : ℕ) (src dst : List ℕ) (area₁ area₂ : List Float) → Hold area₁ area₂ → All (λ d. d < m) dst → All (Agree area₁ area₂) src
+      pub rows-paired : (v : ℕ) (src dst : List ℕ) (area₁ area₂ : List Float) → BufferRoom area₁ area₂ → All (λ d. d < m) dst → All (Agree area₁ area₂) src
           → Paired (λ b. has dst b ≡ true) area₁ area₂ (rows b₁ gain v src dst area₁) (rows b₂ gain v src dst area₂)
       unfolding rows
       rows-paired v src [] area₁ area₂ h below agree = record { hold = h; kept = λ b g. g; made = λ b e. absurd (none-there b e) }
@@ -156,7 +156,7 @@ module _ (b₁ k₁ b₂ k₂ : ℕ) (h₁ : k₁ < b₁) (h₂ : k₂ < b₂) w
           (first-or-later d dst)
 
     module _ (g : Gain) (even : factor g k₁ ≡ factor g k₂) (weights : List Float) where
-      weighs-paired : (v : ℕ) (src : List ℕ) (d : ℕ) (area₁ area₂ : List Float) → Hold area₁ area₂ → d < m → All (Agree area₁ area₂) src
+      weighs-paired : (v : ℕ) (src : List ℕ) (d : ℕ) (area₁ area₂ : List Float) → BufferRoom area₁ area₂ → d < m → All (Agree area₁ area₂) src
           → Paired (λ b. ⊥) area₁ area₂ (weighs b₁ g weights v src d area₁) (weighs b₂ g weights v src d area₂)
       unfolding weighs
       weighs-paired v [] d area₁ area₂ h below agree = nothing h
@@ -166,7 +166,7 @@ module _ (b₁ k₁ b₂ k₂ : ℕ) (h₁ : k₁ < b₁) (h₂ : k₂ < b₂) w
           (λ e. sent-same k₁ k₂ g even w (agree .0) e) in
           then p (weighs-paired (suc v) src d (sendIn b₁ g w s d area₁) (sendIn b₂ g w s d area₂) (p .hold) below (all-map (p .kept) src (agree .1))) (λ b e. inl e)
 
-      pub sends-paired : (v : ℕ) (src dst : List ℕ) (area₁ area₂ : List Float) → Hold area₁ area₂ → All (λ d. d < m) dst → All (Agree area₁ area₂) src
+      pub sends-paired : (v : ℕ) (src dst : List ℕ) (area₁ area₂ : List Float) → BufferRoom area₁ area₂ → All (λ d. d < m) dst → All (Agree area₁ area₂) src
           → Paired (λ b. ⊥) area₁ area₂ (sends b₁ g weights v src dst area₁) (sends b₂ g weights v src dst area₂)
       unfolding sends
       sends-paired v src [] area₁ area₂ h below agree = nothing h
@@ -175,7 +175,7 @@ module _ (b₁ k₁ b₂ k₂ : ℕ) (h₁ : k₁ < b₁) (h₂ : k₂ < b₂) w
           then p (sends-paired (v + length src) src dst (weighs b₁ g weights v src d area₁) (weighs b₂ g weights v src d area₂) (p .hold) (below .1) (all-map (p .kept) src agree))
           (λ b e. inl e)
 
-    pub cleared-paired : (dst : List ℕ) (area₁ area₂ : List Float) → Hold area₁ area₂ → All (λ d. d < m) dst
+    pub cleared-paired : (dst : List ℕ) (area₁ area₂ : List Float) → BufferRoom area₁ area₂ → All (λ d. d < m) dst
         → Paired (λ b. has dst b ≡ true) area₁ area₂ (cleared b₁ dst area₁) (cleared b₂ dst area₂)
     unfolding cleared
     cleared-paired [] area₁ area₂ h below = record { hold = h; kept = λ b g. g; made = λ b e. absurd (none-there b e) }
@@ -184,6 +184,6 @@ module _ (b₁ k₁ b₂ k₂ : ℕ) (h₁ : k₁ < b₁) (h₂ : k₂ < b₂) w
         then p (cleared-paired dst (clearBuffer b₁ d area₁) (clearBuffer b₂ d area₂) (p .hold) (below .1)) (first-or-later d dst)
 
     -- a Patch of samples that are the same
-    pub patch-paired : (d : ℕ) (f₁ f₂ : ℕ → Float) (area₁ area₂ : List Float) → Hold area₁ area₂ → d < m → f₁ k₁ ≡ f₂ k₂
+    pub patch-paired : (d : ℕ) (f₁ f₂ : ℕ → Float) (area₁ area₂ : List Float) → BufferRoom area₁ area₂ → d < m → f₁ k₁ ≡ f₂ k₂
         → Paired (λ b. b ≡ d) area₁ area₂ (put b₁ d f₁ area₁) (put b₂ d f₂ area₂)
     patch-paired d f₁ f₂ area₁ area₂ h below e = put-anew d below h f₁ f₂ e

@@ -20,6 +20,7 @@ use Rattle.node.specs.Sizes.{nodeWords}
 use Rattle.node.specs.Areas.{idAt, nodeAt}
 use Rattle.node.proofs.Areas.{getD-nodes}
 use Rattle.plan.specs.declared.Plan.{Plan}
+use Rattle.plan.specs.PlanRecord.{withBlock}
 use Rattle.plan.specs.declared.Step.{Step}
 use Rattle.plan.specs.declared.Step.the-variants.{Patch, Gain, Matrix, Clear, Send, Output}
 use Rattle.plan.specs.declared.Read.{Read}
@@ -32,7 +33,7 @@ use Rattle.plan.specs.Check.{outsideBy, outside, stepTests, stepsTests, planTes
 use Rattle.plan.proofs.Plans.{lists-none}
 use Rattle.plan.proofs.Exact.{accepted-sound}
 use Rattle.plan.proofs.Front.{check-front}
-use Rattle.builder.specs.Built.{State, Draft, Holds}
+use Rattle.builder.specs.Built.{BuilderState, Draft, Drafted}
 use Rattle.trace.specs.Sources.{sourceList, slotCount}
 use Rattle.trace.specs.Clean.{clean}
 use Rattle.trace.specs.Calls.{tracedSteps, traceAnswer, sourcesAnswer, sourcesArea, cleanAnswer}
@@ -42,9 +43,6 @@ use Rattle.theorem.proofs.Nodes.{nobody}
 use Rattle.theorem.proofs.Drafts.{same-nodes, same-traced}
 
 -- ---- a plan with another block
-
-abbrev withBlock : Plan → ℕ → Plan
-withBlock p n = record { block = n; buffers = p .buffers; indices = p .indices; coefficients = p .coefficients; nodes = p .nodes; steps = p .steps; words = p .words }
 
 module _ (p : Plan) (n : ℕ) where
   outside-block : (s : Step) → outside (withBlock p n) s ≡ outside p s
@@ -79,8 +77,8 @@ module _ (p : Plan) (n : ℕ) where
 -- ---- a draft in its place
 
 -- A state that holds a draft, with areas that have the words of its nodes, for a block within the limits. That they have the draft's other lists follows.
-pub record Placed (s : State) (d : Draft) : Type 0 where
-  pub holds : Holds s d
+pub record Placed (s : BuilderState) (d : Draft) : Type 0 where
+  pub holds : Drafted s d
   pub nodes : s .plan .nodes * nodeWords ≤ length (s .words)
   pub block : badBlock (s .plan .block) ≡ false
 
@@ -88,7 +86,7 @@ pub record Placed (s : State) (d : Draft) : Type 0 where
 front-room : (n : ℕ) (xs ys : List ℕ) → take n xs ≡ ys → n ≡ length ys → n ≤ length xs
 front-room n xs ys e c = subst (λ (k : ℕ). k ≤ length xs) (sym (length-take n xs) ∙ ap length e ∙ sym c) (min-le-right n (length xs))
 
-long-enough : (s : State) (d : Draft) → Placed s d → shortLists (s .plan) (s .indices) (s .words) (s .steps) ≡ false
+long-enough : (s : BuilderState) (d : Draft) → Placed s d → shortLists (s .plan) (s .indices) (s .words) (s .steps) ≡ false
 long-enough s d t =
     let h = t .holds in
     lists-none (s .plan) (s .indices) (s .words) (s .steps) .1
@@ -99,10 +97,10 @@ long-enough s d t =
     })
 
 -- ---- the calls that are lent the index list, the node words and the step words
-abbrev checkedLists : State → Answer
+abbrev checkedLists : BuilderState → Answer
 checkedLists s = checked (s .plan) (shortLists (s .plan) (s .indices) (s .words) (s .steps)) (s .indices) (s .words) (s .steps)
 
-abbrev traced : State → List Resolved
+abbrev traced : BuilderState → List Resolved
 traced s = tracedSteps (s .plan) (s .indices) (s .steps)
 
 -- 15 and 2
@@ -110,7 +108,7 @@ abbrev slotTests : ℕ → ℕ → List Resolved → List Test
 slotTests slot n xs = test noSlot (leb (slotCount xs) slot) ∷ test shortArea (ltb n (length (sourceList slot xs))) ∷ []
 
 -- the trace's tests come after the plan's
-in-turn : (s : State) (slot n : ℕ)
+in-turn : (s : BuilderState) (slot n : ℕ)
     → traceAnswer (s .plan) slot (s .indices) (s .words) (s .steps) n ≡ outcome (checkedLists s) (first (slotTests slot n (traced s)) Accepted) Refused
 unfolding traceAnswer checked
 in-turn s slot n = first-append tests own Accepted ∙ go (first tests Accepted) refl
@@ -134,7 +132,7 @@ turned (Refused r) own done refused = refl
 -- ---- two states of one draft
 
 -- the plan check, the clean answer, the trace's answer and the list's area after it say the same of both
-pub record SameAnswers (s₁ s₂ : State) : Type 0 where
+pub record SameAnswers (s₁ s₂ : BuilderState) : Type 0 where
   pub same-check : checkedLists s₂ ≡ checkedLists s₁
   pub same-clean : cleanAnswer (s₂ .plan) (s₂ .indices) (s₂ .words) (s₂ .steps) ≡ cleanAnswer (s₁ .plan) (s₁ .indices) (s₁ .words) (s₁ .steps)
   pub same-sources : (slot n : ℕ)
@@ -142,11 +140,11 @@ pub record SameAnswers (s₁ s₂ : State) : Type 0 where
   pub same-list : (slot : ℕ) (area : List ℕ)
       → sourcesArea (s₂ .plan) slot (s₂ .indices) (s₂ .words) (s₂ .steps) area ≡ sourcesArea (s₁ .plan) slot (s₁ .indices) (s₁ .words) (s₁ .steps) area
 
-module _ (s₁ s₂ : State) (d : Draft) (t₁ : Placed s₁ d) (t₂ : Placed s₂ d) where
-  abbrev h₁ : Holds s₁ d
+module _ (s₁ s₂ : BuilderState) (d : Draft) (t₁ : Placed s₁ d) (t₂ : Placed s₂ d) where
+  abbrev h₁ : Drafted s₁ d
   h₁ = t₁ .holds
 
-  abbrev h₂ : Holds s₂ d
+  abbrev h₂ : Drafted s₂ d
   h₂ = t₂ .holds
 
   abbrev p₁ : Plan
@@ -201,7 +199,7 @@ module _ (s₁ s₂ : State) (d : Draft) (t₁ : Placed s₁ d) (t₂ : Placed s
       ≡ outcome (traceAnswer (s₁ .plan) slot (s₁ .indices) (s₁ .words) (s₁ .steps) n) (made (traced s₁)) refused
   by-trace {A} slot n made refused = each s₂ ∙ by-steps (λ xs. outcome (first (slotTests slot n xs) Accepted) (made xs) refused) refused ∙ sym (each s₁)
     where
-      each : (s : State) → outcome (traceAnswer (s .plan) slot (s .indices) (s .words) (s .steps) n) (made (traced s)) refused
+      each : (s : BuilderState) → outcome (traceAnswer (s .plan) slot (s .indices) (s .words) (s .steps) n) (made (traced s)) refused
           ≡ outcome (checkedLists s) (outcome (first (slotTests slot n (traced s)) Accepted) (made (traced s)) refused) refused
       each s =
           ap (λ (t : Answer). outcome t (made (traced s)) refused) (in-turn s slot n)

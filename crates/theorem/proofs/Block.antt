@@ -22,11 +22,11 @@ use Rattle.mix.proofs.Laws.{not-used, gained-other, rows-other, sends-other, cl
 use Rattle.mix.proofs.Put.{put-other}
 use Rattle.plan.specs.Resolved.{Resolved, patch, gain, matrix, clear, send, output, channelsOut}
 use Rattle.trace.specs.Sources.{union, spread, joins, behind}
-use Rattle.trace.specs.Clean.{written, all, cleanStep, cleanFrom}
+use Rattle.trace.specs.Clean.{writtenAfter, all, cleanStep, cleanFrom}
 use Rattle.run.specs.Run.{State, stepped, runSteps, outputChannels}
 use Rattle.run.proofs.States.{step-lengths}
 use Rattle.run.proofs.Outputs.{channels-more, wrote-out}
-use Rattle.theorem.proofs.Agree.{All, all-at, Agree, Hold, Paired, gained-paired, rows-paired, sends-paired, cleared-paired, patch-paired}
+use Rattle.theorem.proofs.Agree.{All, all-at, Agree, BufferRoom, Paired, gained-paired, rows-paired, sends-paired, cleared-paired, patch-paired}
 use Rattle.theorem.proofs.Steps.{InPlan, none-of, SameNodes, even, nodes-step, hold-step}
 
 -- of each step
@@ -119,7 +119,7 @@ module _ (count m b₁ k₁ b₂ k₂ : ℕ) (h₁ : k₁ < b₁) (h₂ : k₂ <
         go false p u = other b p .0 ∙ inv b v u ∙ sym (other b p .1)
 
     -- Patch replaces
-    patched-same : (j c d : ℕ) → d < m → Hold b₁ k₁ b₂ k₂ h₁ h₂ m area₁ area₂
+    patched-same : (j c d : ℕ) → d < m → BufferRoom b₁ k₁ b₂ k₂ h₁ h₂ m area₁ area₂
         → (b : ℕ) → (eqb b d || w b) ≡ true → Within (λ i. cond (eqb b d) (eqb i j) (sources b i)) L
         → Same (put b₁ d (patched b₁ (input₁ j c)) area₁) (put b₂ d (patched b₂ (input₂ j c)) area₂) b
     patched-same j c d below hold b v u = go (eqb b d) refl v u
@@ -134,13 +134,13 @@ module _ (count m b₁ k₁ b₂ k₂ : ℕ) (h₁ : k₁ < b₁) (h₂ : k₂ <
 
   -- ---- a step keeps it
   module _ (sources : ℕ → ℕ → Bool) (w : ℕ → Bool) (s₁ s₂ : State) (t : SameNodes count m b₁ k₁ b₂ k₂ h₁ h₂ s₁ s₂)
-      (hold : Hold b₁ k₁ b₂ k₂ h₁ h₂ m (s₁ .buffers) (s₂ .buffers)) (inv : Listed sources w (s₁ .buffers) (s₂ .buffers)) where
+      (hold : BufferRoom b₁ k₁ b₂ k₂ h₁ h₂ m (s₁ .buffers) (s₂ .buffers)) (inv : Listed sources w (s₁ .buffers) (s₂ .buffers)) where
     abbrev gains₁ : ℕ → ℕ → Gain
     gains₁ n i = gainOf (nodeAt (s₁ .floats) (s₁ .words) n) i
 
     step-listed : (x : Resolved) → InPlan count m x → cleanStep w x ≡ true
-        → Listed (spread sources x) (written w x) (stepped b₁ input₁ x s₁ .buffers) (stepped b₂ input₂ x s₂ .buffers)
-    unfolding stepped cleanStep spread written union all
+        → Listed (spread sources x) (writtenAfter w x) (stepped b₁ input₁ x s₁ .buffers) (stepped b₂ input₂ x s₂ .buffers)
+    unfolding stepped cleanStep spread writtenAfter union all
     step-listed (patch j c d) o e b v u = patched-same sources w (s₁ .buffers) (s₂ .buffers) inv j c d (o .1 .0) hold b v u
     step-listed (gain n src dst) o e b v u =
         let c = and-both (leb (length dst) (length src)) (all w src) e in
@@ -175,7 +175,7 @@ module _ (count m b₁ k₁ b₂ k₂ : ℕ) (h₁ : k₁ < b₁) (h₂ : k₂ <
     -- what is still to be said where q blocks are written
     pub record Going (sources : ℕ → ℕ → Bool) (w : ℕ → Bool) (xs : List Resolved) (q : ℕ) (s₁ s₂ : State) : Type 0 where
       pub nodes : SameNodes count m b₁ k₁ b₂ k₂ h₁ h₂ s₁ s₂
-      pub hold : Hold b₁ k₁ b₂ k₂ h₁ h₂ m (s₁ .buffers) (s₂ .buffers)
+      pub hold : BufferRoom b₁ k₁ b₂ k₂ h₁ h₂ m (s₁ .buffers) (s₂ .buffers)
       pub listed : Listed sources w (s₁ .buffers) (s₂ .buffers)
       pub clean : cleanFrom w xs ≡ true
       pub within : Within (behind s sources xs) L
@@ -187,10 +187,10 @@ module _ (count m b₁ k₁ b₂ k₂ : ℕ) (h₁ : k₁ < b₁) (h₂ : k₂ <
 
     -- one step on
     going-on : (sources : ℕ → ℕ → Bool) (w : ℕ → Bool) (x : Resolved) (xs : List Resolved) (q : ℕ) (s₁ s₂ : State) → Going sources w (x ∷ xs) q s₁ s₂
-        → Going (spread sources x) (written w x) xs (q + channelsOut x) (stepped b₁ input₁ x s₁) (stepped b₂ input₂ x s₂)
+        → Going (spread sources x) (writtenAfter w x) xs (q + channelsOut x) (stepped b₁ input₁ x s₁) (stepped b₂ input₂ x s₂)
     unfolding cleanFrom behind
     going-on sources w x xs q s₁ s₂ g =
-        let e = and-both (cleanStep w x) (cleanFrom (written w x) xs) (g .clean) in
+        let e = and-both (cleanStep w x) (cleanFrom (writtenAfter w x) xs) (g .clean) in
         let n : q + channelsOut x + outputChannels xs ≡ q + outputChannels (x ∷ xs) = rw (channels-more x xs) (omega arith) in
         record {
           nodes = nodes-step count m b₁ k₁ b₂ k₂ h₁ h₂ input₁ input₂ s₁ s₂ (g .nodes) x (g .in-plan .0);
@@ -209,7 +209,7 @@ module _ (count m b₁ k₁ b₂ k₂ : ℕ) (h₁ : k₁ < b₁) (h₂ : k₂ <
     own-same : (sources : ℕ → ℕ → Bool) (w : ℕ → Bool) (q : ℕ) (s₁ s₂ : State) → Going sources w (output src s ∷ after) q s₁ s₂ → All (Same (s₁ .buffers) (s₂ .buffers)) src
     unfolding cleanFrom cleanStep behind joins
     own-same sources w q s₁ s₂ g =
-        all-same sources w (s₁ .buffers) (s₂ .buffers) (g .listed) src (and-both (all w src) (cleanFrom (written w (output src s)) after) (g .clean) .0)
+        all-same sources w (s₁ .buffers) (s₂ .buffers) (g .listed) src (and-both (all w src) (cleanFrom (writtenAfter w (output src s)) after) (g .clean) .0)
         (λ i p. g .within i
         (or-left (eqb s s && union sources src i) (behind s (spread sources (output src s)) after i) (and-intro (eqb s s) (union sources src i) (eq-eqb s s refl) p)))
 
@@ -230,5 +230,5 @@ module _ (count m b₁ k₁ b₂ k₂ : ℕ) (h₁ : k₁ < b₁) (h₂ : k₂ <
         let out₁ = runSteps b₁ input₁ (before ++ output src s ∷ after) (stepped b₁ input₁ x s₁) .output in
         let out₂ = runSteps b₂ input₂ (before ++ output src s ∷ after) (stepped b₂ input₂ x s₂) .output in
         subst (λ (p : ℕ). sample b₁ out₁ p k₁ ≡ sample b₂ out₂ p k₂) n
-        (same-sample before (spread sources x) (written w x) (q + channelsOut x) (stepped b₁ input₁ x s₁) (stepped b₂ input₂ x s₂)
+        (same-sample before (spread sources x) (writtenAfter w x) (q + channelsOut x) (stepped b₁ input₁ x s₁) (stepped b₂ input₂ x s₂)
         (going-on sources w x (before ++ output src s ∷ after) q s₁ s₂ g))

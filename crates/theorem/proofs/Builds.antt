@@ -13,10 +13,11 @@ use Rattle.node.specs.Sizes.{nodeWords}
 use Rattle.node.specs.Nodes.{newNode}
 use Rattle.node.specs.Areas.{nodes}
 use Rattle.node.proofs.Left.{left-new}
-use Rattle.plan.specs.Limits.{Limits, unitLimits}
+use Rattle.plan.specs.declared.Limits.{Limits}
+use Rattle.plan.specs.Limits.{unitLimits}
 use Rattle.builder.specs.Growth.{buffersGrowth, coefficientsGrowth, nodeGrowth, stepGrowth}
 use Rattle.builder.specs.Calls.{newAnswer, newTests, recordLength}
-use Rattle.builder.specs.Built.{Call, buffers, coefficients, node, step, State, answer, after, built, Draft, noDraft, given, drafted, Holds}
+use Rattle.builder.specs.Built.{BuilderCall, buffers, coefficients, node, step, BuilderState, answer, after, built, Draft, noDraft, given, drafted, Drafted}
 use Rattle.builder.proofs.Refusals.{refused-nothing}
 use Rattle.builder.proofs.Kept.{accepted-kept}
 use Rattle.builder.proofs.Outcomes.{plan-accepted}
@@ -27,8 +28,8 @@ use Rattle.theorem.proofs.Nodes.{AtRest}
 use Rattle.theorem.proofs.Answers.{Placed, SameAnswers, same-answers}
 
 -- ---- what each accepted call keeps, a list of calls keeps
-module _ (l : Limits) (P : State → Type 0) (keeps : (s : State) (c : Call) → answer l s c ≡ Accepted → P s → P (after l s c)) where
-  all-keep : (cs : List Call) (s : State) → P s → P (built l s cs)
+module _ (l : Limits) (P : BuilderState → Type 0) (keeps : (s : BuilderState) (c : BuilderCall) → answer l s c ≡ Accepted → P s → P (after l s c)) where
+  all-keep : (cs : List BuilderCall) (s : BuilderState) → P s → P (built l s cs)
   all-keep [] s p = p
   all-keep (c ∷ cs) s p = all-keep cs (after l s c) (go (answer l s c) refl)
     where
@@ -37,12 +38,12 @@ module _ (l : Limits) (P : State → Type 0) (keeps : (s : State) (c : Call) →
       go (Refused r) e = subst P (sym (refused-nothing l s c r e)) p
 
 pub block-kept : (b : Build) → grown b .plan .block ≡ b .block
-block-kept b = all-keep unitLimits (λ (s : State). s .plan .block ≡ b .block) (λ s c e p. accepted-kept unitLimits s c e .block ∙ p) (b .calls) (begun b) refl
+block-kept b = all-keep unitLimits (λ (s : BuilderState). s .plan .block ≡ b .block) (λ s c e p. accepted-kept unitLimits s c e .block ∙ p) (b .calls) (begun b) refl
 
-abbrev NodeRoom : State → Type 0
+abbrev NodeRoom : BuilderState → Type 0
 NodeRoom s = s .plan .nodes * nodeWords ≤ length (s .words)
 
-room-kept : (l : Limits) (s : State) (c : Call) → answer l s c ≡ Accepted → NodeRoom s → NodeRoom (after l s c)
+room-kept : (l : Limits) (s : BuilderState) (c : BuilderCall) → answer l s c ≡ Accepted → NodeRoom s → NodeRoom (after l s c)
 room-kept l s (buffers n) e r = rw (plan-accepted (s .plan) (buffersGrowth n) e) r
 room-kept l s (coefficients xs) e r = rw (plan-accepted (s .plan) (coefficientsGrowth (length xs)) e) r
 room-kept l s (node id xs ramp) e r =
@@ -54,7 +55,7 @@ room-kept l s (step w) e r = rw (plan-accepted (s .plan) (stepGrowth (recordLeng
 abbrev pub draft : Build → Draft
 draft b = drafted noDraft (acceptedCalls b)
 
-pub holds : (b : Build) → Holds (grown b) (draft b)
+pub holds : (b : Build) → Drafted (grown b) (draft b)
 holds b = read-back unitLimits (b .block) (begun b) refl (b .calls)
 
 placed : (b : Build) → newAnswer (b .block) ≡ Accepted → Placed (grown b) (draft b)
@@ -74,7 +75,7 @@ snoc-rest [] new r e (suc n) = refl
 snoc-rest (x ∷ ns) new r e zero = r zero
 snoc-rest (x ∷ ns) new r e (suc n) = snoc-rest ns new (λ i. r (suc i)) e n
 
-drafted-rest : (cs : List Call) (d : Draft) → AtRest (d .nodes) → NoRampBuilt cs → AtRest (drafted d cs .nodes)
+drafted-rest : (cs : List BuilderCall) (d : Draft) → AtRest (d .nodes) → NoRampBuilt cs → AtRest (drafted d cs .nodes)
 drafted-rest [] d r f = r
 drafted-rest (buffers n ∷ cs) d r f = drafted-rest cs (given d (buffers n)) r f
 drafted-rest (coefficients xs ∷ cs) d r f = drafted-rest cs (given d (coefficients xs)) r f
@@ -88,10 +89,10 @@ built-rest b f = rw (holds b .nodes) (drafted-rest (acceptedCalls b) noDraft (λ
 -- ---- two builds of the same accepted calls
 module _ (b₁ b₂ : Build) (e : acceptedCalls b₁ ≡ acceptedCalls b₂) where
   -- the second holds the draft of the first
-  pub holds-too : Holds (grown b₂) (draft b₁)
-  holds-too = subst (λ (cs : List Call). Holds (grown b₂) (drafted noDraft cs)) (sym e) (holds b₂)
+  pub holds-too : Drafted (grown b₂) (draft b₁)
+  holds-too = subst (λ (cs : List BuilderCall). Drafted (grown b₂) (drafted noDraft cs)) (sym e) (holds b₂)
 
   pub builds-answer : newAnswer (b₁ .block) ≡ Accepted → newAnswer (b₂ .block) ≡ Accepted → SameAnswers (grown b₁) (grown b₂)
   builds-answer new₁ new₂ =
       same-answers (grown b₁) (grown b₂) (draft b₁) (placed b₁ new₁)
-      (subst (λ (cs : List Call). Placed (grown b₂) (drafted noDraft cs)) (sym e) (placed b₂ new₂))
+      (subst (λ (cs : List BuilderCall). Placed (grown b₂) (drafted noDraft cs)) (sym e) (placed b₂ new₂))

@@ -9,21 +9,21 @@ use Rattle.node.specs.Areas.{nodes}
 use Rattle.plan.specs.Resolved.{resolved, resolvedSteps}
 use Rattle.plan.specs.Sound.{Inside, Each, stepsOf}
 use Rattle.plan.proofs.Grown.{all-resolved-same}
-use Rattle.builder.specs.Built.{State, Draft, Holds}
+use Rattle.builder.specs.Built.{BuilderState, Draft, Drafted}
 use Rattle.builder.proofs.ReadBack.{held-decoded}
 use Rattle.trace.specs.Calls.{tracedSteps}
-use Rattle.run.specs.Calls.{Fixed, Held, stepsOfPlan}
+use Rattle.run.specs.Calls.{Fixed, Changing, stepsOfPlan}
 use Rattle.theorem.proofs.OneDraft.{OneDraft}
 
 -- ---- a state of the builder, as later calls get it
-abbrev pub planOf : State → Fixed
+abbrev pub planOf : BuilderState → Fixed
 planOf s = record { plan = s .plan; indices = s .indices; coefficients = s .coefficients; steps = s .steps }
 
-abbrev pub areasOf : State → List Float → Held
+abbrev pub areasOf : BuilderState → List Float → Changing
 areasOf s buffers = record { floats = s .floats; words = s .words; buffers = buffers }
 
 -- ---- two states of one draft
-module _ (s₁ s₂ : State) (d : Draft) (h₁ : Holds s₁ d) (h₂ : Holds s₂ d) where
+module _ (s₁ s₂ : BuilderState) (d : Draft) (h₁ : Drafted s₁ d) (h₂ : Drafted s₂ d) where
   pub same-nodes : nodes (s₁ .plan .nodes) (s₁ .floats) (s₁ .words) ≡ nodes (s₂ .plan .nodes) (s₂ .floats) (s₂ .words)
   same-nodes = h₁ .nodes ∙ sym (h₂ .nodes)
 

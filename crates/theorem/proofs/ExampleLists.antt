@@ -23,10 +23,10 @@ use Rattle.theorem.proofs.ExampleParts.{definitions, one, two, three, f
 -- ---- the plan: the two channels of input 0 are added (buffer 2), scaled (buffer 3) and sent with weight 2 (buffer 4), and the last two buffers
 -- are written to slot 0; input 3 is written to slot 1
 
-abbrev tables : List builder.Call
+abbrev tables : List builder.BuilderCall
 tables = buffers 6 ∷ coefficients (two ∷ []) ∷ node 7 (one ∷ []) 0 ∷ node 8 (one ∷ one ∷ []) 0 ∷ []
 
-abbrev layout : List builder.Call
+abbrev layout : List builder.BuilderCall
 layout =
     patchStep 0 0 0
     ∷ patchStep 0 1 1

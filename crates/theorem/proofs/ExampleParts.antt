@@ -25,7 +25,7 @@ use Rattle.plan.specs.Words.{patchMap, gainMap, matrixMap, clearMap, sendMap, o
 use Rattle.plan.specs.Areas.{Areas, areas}
 use Rattle.plan.specs.Check.{idAmong, idTwice, outsideBy, shares, stepsTests, checked}
 use Rattle.builder.specs.Calls.{newAnswer, buffersIndices, coefficientsArea, nodeFloatsArea, nodeWordsArea, stepArea, finishArea}
-use Rattle.builder.specs.Built.{Call, step}
+use Rattle.builder.specs.Built.{BuilderCall, step}
 use Rattle.input.specs.Input.{entryWord, entryFor, entries}
 use Rattle.input.proofs.Input.{lookup-absent}
 use Rattle.trace.specs.Sources.{sourceList}
@@ -85,22 +85,22 @@ lentFor indices coefficients nodes steps buffers =
 
 -- ---- the builder's `step` for each kind; a span is its start and its length
 
-abbrev pub patchStep : ℕ → ℕ → ℕ → Call
+abbrev pub patchStep : ℕ → ℕ → ℕ → BuilderCall
 patchStep input channel dst = step (patchMap ∷ input ∷ channel ∷ dst ∷ [])
 
-abbrev pub gainStep : ℕ → ℕ → ℕ → ℕ → ℕ → Call
+abbrev pub gainStep : ℕ → ℕ → ℕ → ℕ → ℕ → BuilderCall
 gainStep node src sources dst targets = step (gainMap ∷ node ∷ src ∷ sources ∷ dst ∷ targets ∷ [])
 
-abbrev pub matrixStep : ℕ → ℕ → ℕ → ℕ → ℕ → Call
+abbrev pub matrixStep : ℕ → ℕ → ℕ → ℕ → ℕ → BuilderCall
 matrixStep node src sources dst targets = step (matrixMap ∷ node ∷ src ∷ sources ∷ dst ∷ targets ∷ [])
 
-abbrev pub clearStep : ℕ → ℕ → Call
+abbrev pub clearStep : ℕ → ℕ → BuilderCall
 clearStep dst targets = step (clearMap ∷ dst ∷ targets ∷ [])
 
-abbrev pub sendStep : ℕ → ℕ → ℕ → ℕ → ℕ → ℕ → ℕ → Call
+abbrev pub sendStep : ℕ → ℕ → ℕ → ℕ → ℕ → ℕ → ℕ → BuilderCall
 sendStep node src sources dst targets weight weights = step (sendMap ∷ node ∷ src ∷ sources ∷ dst ∷ targets ∷ weight ∷ weights ∷ [])
 
-abbrev pub outputStep : ℕ → ℕ → ℕ → Call
+abbrev pub outputStep : ℕ → ℕ → ℕ → BuilderCall
 outputStep src sources slot = step (outputMap ∷ src ∷ sources ∷ slot ∷ [])
 
 -- ---- a run whose directory has one entry: channel 0 of an input, all the samples; the output area has n places
@@ -161,7 +161,7 @@ none-listed l s e i c h = absurd (false≢true (ap (λ (list : List ℕ). has li
 -- ---- from what the builds and the journals were computed to be
 
 -- a build that is finished, and its accepted calls
-pub record BuiltBy (build : Build) (calls : List Call) : Type 0 where
+pub record BuiltBy (build : Build) (calls : List BuilderCall) : Type 0 where
   pub finished : Finished build
   pub accepted : acceptedCalls build ≡ calls
 

@@ -12,7 +12,7 @@ use Rattle.builder.specs.Built.{buffers, node}
 use Rattle.trace.specs.Calls.{cleanAnswer}
 use Rattle.trace.specs.declared.CleanAnswer.the-variants.{Clean}
 use Rattle.run.specs.Calls.{Call, set}
-use Rattle.theorem.specs.Builds.{Build, Finished, acceptedCalls, fixed, held, NoRampBuilt}
+use Rattle.theorem.specs.Builds.{Build, Finished, acceptedCalls, fixed, changing, NoRampBuilt}
 use Rattle.theorem.specs.Journal.{total, settingsFrom, NoRampSet}
 use Rattle.theorem.specs.Statement.{Lists, a, b, firstJournal, secondJournal, Given, ListedCarryEqual, ChannelOf, SameOutput}
 use Rattle.theorem.proofs.ExampleParts.{definitions, one, two, three, four, one-two, two-three, sampleAt, lentFor, patchStep, gainStep, outputStep, feed, BuiltBy, itself, someChannelFrom, none-listed, one-listed}
@@ -25,7 +25,7 @@ pub record Common (l : Lists) : Type 0 where
   pub same-calls : acceptedCalls (l .first) ≡ acceptedCalls (l .second)
   pub same-total : total (a l) (firstJournal l) ≡ total (b l) (secondJournal l)
 
-pub common-of : (l : Lists) {calls : List builder.Call} → BuiltBy (l .first) calls → BuiltBy (l .second) calls
+pub common-of : (l : Lists) {calls : List builder.BuilderCall} → BuiltBy (l .first) calls → BuiltBy (l .second) calls
     → total (a l) (firstJournal l) ≡ total (b l) (secondJournal l) → Common l
 common-of l first second e =
     record {
@@ -36,7 +36,7 @@ common-of l first second e =
     }
 
 abbrev pub CleanPlan : Lists → Type 0
-CleanPlan l = cleanAnswer (fixed (l .first) .plan) (fixed (l .first) .indices) (held (l .first) .words) (fixed (l .first) .steps) ≡ Clean
+CleanPlan l = cleanAnswer (fixed (l .first) .plan) (fixed (l .first) .indices) (changing (l .first) .words) (fixed (l .first) .steps) ≡ Clean
 
 abbrev pub Alike : Lists → Type 0
 Alike l = settingsFrom (a l) 0 (firstJournal l) ≡ settingsFrom (b l) 0 (secondJournal l)

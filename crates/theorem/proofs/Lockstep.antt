@@ -18,7 +18,7 @@ use Rattle.trace.specs.Sources.{noSources, behind}
 use Rattle.trace.specs.Clean.{noneWritten, cleanFrom}
 use Rattle.input.specs.Input.{lookup}
 use Rattle.run.specs.Run.{outputChannels, processed}
-use Rattle.run.specs.Calls.{Fixed, Held, set, run, givenTo, start, answer, after, stepsOfPlan}
+use Rattle.run.specs.Calls.{Fixed, Changing, set, run, givenTo, start, answer, after, stepsOfPlan}
 use Rattle.theorem.specs.Journal.{Entry, ran, entry, Setting, total, settingsFrom, written, carried}
 use Rattle.theorem.specs.Statement.{Channel}
 use Rattle.theorem.proofs.Block.{Within}
@@ -29,7 +29,7 @@ use Rattle.theorem.proofs.Runs.{Went, none, then, nodesOf, nodes-then, 
 use Rattle.theorem.proofs.Pairs.{SamePlan, below₁, below₂, one-sample}
 
 -- what lasts from run to run
-pub record Same (f₁ f₂ : Fixed) (h₁ h₂ : Held) : Type 0 where
+pub record Same (f₁ f₂ : Fixed) (h₁ h₂ : Changing) : Type 0 where
   pub nodes : nodesOf f₁ h₁ ≡ nodesOf f₂ h₂
 
 -- ---- an input that carries equal samples: in a run, and in the runs after it
@@ -57,7 +57,7 @@ module _ (n₁ n₂ : ℕ) (equal : n₁ ≡ n₂) (d₁ d₂ : List ℕ) (x₁ 
           ∙ drop-at (take n₂ v) (carried n₂ i c es₂) n₁ (length-take-le n₂ v w₂ ∙ sym equal)
 
 -- ---- one accepted setting of each
-module _ (f₁ f₂ : Fixed) (h₁ h₂ : Held) (lasting : Same f₁ f₂ h₁ h₂) where
+module _ (f₁ f₂ : Fixed) (h₁ h₂ : Changing) (lasting : Same f₁ f₂ h₁ h₂) where
   set-lasts : (id₁ id₂ ramp₁ ramp₂ : ℕ) (values₁ values₂ : List Float)
       → answer f₁ h₁ (set id₁ values₁ ramp₁) ≡ Accepted → answer f₂ h₂ (set id₂ values₂ ramp₂) ≡ Accepted
       → nodesSet id₁ ramp₁ values₁ (nodesOf f₂ h₂) ≡ nodesSet id₂ ramp₂ values₂ (nodesOf f₂ h₂)
@@ -87,7 +87,7 @@ module _ (f₁ f₂ : Fixed) (same : SamePlan f₁ f₂) (clean : cleanFrom none
   at₂ = below₂ f₁ f₂ same clean s q ch L within
 
   -- ---- one accepted run of each
-  module _ (h₁ h₂ : Held) (lasting : Same f₁ f₂ h₁ h₂) (d₁ d₂ : List ℕ) (x₁ x₂ out₁ out₂ : List Float)
+  module _ (h₁ h₂ : Changing) (lasting : Same f₁ f₂ h₁ h₂) (d₁ d₂ : List ℕ) (x₁ x₂ out₁ out₂ : List Float)
       (e₁ : answer f₁ h₁ (run d₁ x₁ out₁) ≡ Accepted) (e₂ : answer f₂ h₂ (run d₂ x₂ out₂) ≡ Accepted) (es₁ es₂ : List Entry)
       (carry : (i c : ℕ) → L i ≡ true → CarryEqual (f₁ .plan .block) (f₂ .plan .block) i c (entry f₁ h₁ (run d₁ x₁ out₁) ∷ es₁) (entry f₂ h₂ (run d₂ x₂ out₂) ∷ es₂)) where
     abbrev o₁ : List Float
@@ -127,7 +127,7 @@ module _ (f₁ f₂ : Fixed) (same : SamePlan f₁ f₂) (clean : cleanFrom none
 
   -- ---- the whole lists, which start at the same sample; no run is empty
   module _ (least : 0 < f₁ .plan .block) where
-    pub in-step : {h₁ h₂ : Held} {es₁ es₂ : List Entry} → Went f₁ h₁ es₁ → Went f₂ h₂ es₂ → Same f₁ f₂ h₁ h₂ → (at₁ at₂ : ℕ) → at₁ ≡ at₂
+    pub in-step : {h₁ h₂ : Changing} {es₁ es₂ : List Entry} → Went f₁ h₁ es₁ → Went f₂ h₂ es₂ → Same f₁ f₂ h₁ h₂ → (at₁ at₂ : ℕ) → at₁ ≡ at₂
         → total n₁ es₁ ≡ total n₂ es₂ → settingsFrom n₁ at₁ es₁ ≡ settingsFrom n₂ at₂ es₂ → ((i c : ℕ) → L i ≡ true → CarryEqual n₁ n₂ i c es₁ es₂)
         → written n₁ q es₁ ≡ written n₂ q es₂
     in-step none none t at₁ at₂ z sum e carry = refl

@@ -9,7 +9,7 @@ use lib.ListN.{length}
 use Rattle.lists.specs.Entries.{has}
 use Rattle.trace.specs.Sources.{noSources, behind}
 use Rattle.trace.specs.Clean.{noneWritten, cleanFrom}
-use Rattle.run.specs.Calls.{Fixed, Held, Call, stepsOfPlan}
+use Rattle.run.specs.Calls.{Fixed, Changing, Call, stepsOfPlan}
 use Rattle.theorem.specs.Journal.{Entry, journal, total, settingsFrom, written, NoRampSet}
 use Rattle.theorem.specs.Traced.{IsClean, listFor}
 use Rattle.theorem.specs.Statement.{Channel}
@@ -23,11 +23,11 @@ use Rattle.theorem.proofs.CleanPlans.{clean-sound, clean-steps, all-lis
 
 -- Two plans, each with its areas, hold one and the same draft: of what no later call changes, the steps, by what their spans name, and the count of
 -- buffers; of what later calls change, the nodes. Their blocks, where their spans start and what their areas hold besides may differ.
-pub record OneDraft (f₁ f₂ : Fixed) (h₁ h₂ : Held) : Type 0 where
+pub record OneDraft (f₁ f₂ : Fixed) (h₁ h₂ : Changing) : Type 0 where
   pub plan : SamePlan f₁ f₂
   pub lasting : Same f₁ f₂ h₁ h₂
 
-module _ (f₁ f₂ : Fixed) (h₁ h₂ : Held) (cs₁ cs₂ : List Call) where
+module _ (f₁ f₂ : Fixed) (h₁ h₂ : Changing) (cs₁ cs₂ : List Call) where
   abbrev es₁ : List Entry
   es₁ = journal f₁ h₁ cs₁
 

@@ -19,7 +19,7 @@ use Rattle.plan.specs.Resolved.{Resolved, output}
 use Rattle.trace.specs.Sources.{noSources, behind}
 use Rattle.trace.specs.Clean.{noneWritten, cleanFrom}
 use Rattle.run.specs.Run.{State, runSteps, outputChannels}
-use Rattle.run.specs.Calls.{Fixed, Held, stepsOfPlan}
+use Rattle.run.specs.Calls.{Fixed, Changing, stepsOfPlan}
 use Rattle.run.proofs.Outputs.{channels-more}
 use Rattle.theorem.specs.Journal.{Entry, total, settingsFrom, written, NoRampSet}
 use Rattle.theorem.specs.Statement.{Channel}
@@ -139,7 +139,7 @@ module _ (f₁ f₂ : Fixed) (same : SamePlan f₁ f₂) (clean : cleanFrom none
         ∙ sym (r₂ .sample-is)
 
   -- ---- the whole lists, where no node ramps
-  pub rest-same : {h₁ h₂ : Held} {es₁ es₂ : List Entry} → Went f₁ h₁ es₁ → Went f₂ h₂ es₂ → nodesOf f₁ h₁ ≡ nodesOf f₂ h₂ → total a es₁ ≡ total b es₂
+  pub rest-same : {h₁ h₂ : Changing} {es₁ es₂ : List Entry} → Went f₁ h₁ es₁ → Went f₂ h₂ es₂ → nodesOf f₁ h₁ ≡ nodesOf f₂ h₂ → total a es₁ ≡ total b es₂
       → settingsFrom a 0 es₁ ≡ settingsFrom b 0 es₂ → AtRest (nodesOf f₁ h₁) × NoRampSet es₁ × NoRampSet es₂
       → ((i c : ℕ) → L i ≡ true → CarryEqual a b i c es₁ es₂) → written a q es₁ ≡ written b q es₂
   rest-same {h₁} {h₂} {es₁} {es₂} w₁ w₂ nodes-same sum alike rest carry = ext-getD nan (written a q es₁) (written b q es₂) (l₁ ∙ sum ∙ sym l₂) (λ t h. each t (rw l₁ at h))

@@ -11,7 +11,7 @@ use Rattle.refusal.specs.Tests.{outcome}
 use Rattle.refusal.specs.declared.Answer.{Answer}
 use Rattle.refusal.specs.declared.Answer.the-variants.{Accepted}
 use Rattle.run.specs.Run.{processed}
-use Rattle.run.specs.Calls.{Fixed, Held, run, givenTo, start, answer, stepsOfPlan}
+use Rattle.run.specs.Calls.{Fixed, Changing, run, givenTo, start, answer, stepsOfPlan}
 use Rattle.theorem.specs.Journal.{Entry, ran, journal}
 use Rattle.theorem.specs.Statement.{Channel}
 use Rattle.theorem.specs.Traced.{IsClean, listFor}
@@ -19,7 +19,7 @@ use Rattle.theorem.specs.Recorder.{Inputs, block, SameInput, blockAt, Ch
 use Rattle.theorem.proofs.Moments.{CarryEqual}
 use Rattle.theorem.proofs.OneDraft.{Premises, drafts-agree}
 
-module _ (f : Fixed) (h : Held) (out : List Float) where
+module _ (f : Fixed) (h : Changing) (out : List Float) where
   abbrev n : ℕ
   n = block f h out
 

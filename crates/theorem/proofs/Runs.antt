@@ -32,8 +32,8 @@ use Rattle.plan.proofs.Accepted.{all-placed}
 use Rattle.plan.proofs.Exact.{accepted-sound}
 use Rattle.plan.proofs.Spans.{names-length, names-below}
 use Rattle.input.specs.Input.{lookup}
-use Rattle.run.specs.Run.{Given, State, runSteps, outputChannels, processed}
-use Rattle.run.specs.Calls.{Fixed, Held, held, Call, set, run, givenTo, start, answer, after, stepsOfPlan}
+use Rattle.run.specs.Run.{RunGiven, State, runSteps, outputChannels, processed}
+use Rattle.run.specs.Calls.{Fixed, Changing, changing, Call, set, run, givenTo, start, answer, after, stepsOfPlan}
 use Rattle.run.proofs.Answers.{accepted-runs}
 use Rattle.run.proofs.Admitted.{areas-of, admitted, output-needs}
 use Rattle.run.proofs.States.{run-lengths}
@@ -68,15 +68,15 @@ module _ (p : Plan) (indices : List ℕ) (coefficients : List Float) where
   all-in-plan (x ∷ ss) o = (in-plan x (o .0), all-in-plan ss (o .1))
 
 -- ---- a journal, entry by entry: each was accepted in the state that those before it left
-pub data Went (f : Fixed) : Held → List Entry → Type 0 where
-  none : {h : Held} → Went f h []
-  then : {h : Held} {es : List Entry} (c : Call) → answer f h c ≡ Accepted → Went f (after f h c) es → Went f h (entry f h c ∷ es)
+pub data Went (f : Fixed) : Changing → List Entry → Type 0 where
+  none : {h : Changing} → Went f h []
+  then : {h : Changing} {es : List Entry} (c : Call) → answer f h c ≡ Accepted → Went f (after f h c) es → Went f h (entry f h c ∷ es)
 
-refused-call : (f : Fixed) (h : Held) (c : Call) (r : Refusal) → answer f h c ≡ Refused r → after f h c ≡ h
+refused-call : (f : Fixed) (h : Changing) (c : Call) (r : Refusal) → answer f h c ≡ Refused r → after f h c ≡ h
 refused-call f h (set id values ramp) r e = refused-set f h id values ramp r e
-refused-call f h (run directory samples out) r e = ap held (refused-run f h directory samples out r e)
+refused-call f h (run directory samples out) r e = ap changing (refused-run f h directory samples out r e)
 
-pub went : (f : Fixed) (cs : List Call) (h : Held) → Went f h (journal f h cs)
+pub went : (f : Fixed) (cs : List Call) (h : Changing) → Went f h (journal f h cs)
 went f [] h = none
 went f (c ∷ cs) h = go (answer f h c) refl (went f cs (after f h c))
   where
@@ -85,7 +85,7 @@ went f (c ∷ cs) h = go (answer f h c) refl (went f cs (after f h c))
 
     go : (a : Answer) → answer f h c ≡ a → Went f (after f h c) es → Went f h (outcome a (entry f h c ∷ es) (λ _. es))
     go Accepted e w = then c e w
-    go (Refused r) e w = subst (λ (x : Held). Went f x es) (refused-call f h c r e) w
+    go (Refused r) e w = subst (λ (x : Changing). Went f x es) (refused-call f h c r e) w
 
 -- ---- an accepted run
 module _ (f : Fixed) where
@@ -95,7 +95,7 @@ module _ (f : Fixed) where
   abbrev steps : List Resolved
   steps = stepsOfPlan f
 
-  abbrev pub nodesOf : Held → List Node
+  abbrev pub nodesOf : Changing → List Node
   nodesOf h = nodes (f .plan .nodes) (h .floats) (h .words)
 
   -- the state that a run starts from, as its admission found it
@@ -106,8 +106,8 @@ module _ (f : Fixed) where
     pub wrote : s .wrote ≡ 0
     pub in-plan : Every (InPlan (f .plan .nodes) (f .plan .buffers)) steps
 
-  module _ (h : Held) (directory : List ℕ) (samples out : List Float) (e : answer f h (run directory samples out) ≡ Accepted) where
-    abbrev g : Given
+  module _ (h : Changing) (directory : List ℕ) (samples out : List Float) (e : answer f h (run directory samples out) ≡ Accepted) where
+    abbrev g : RunGiven
     g = givenTo f directory samples
 
     abbrev s : State
@@ -143,7 +143,7 @@ module _ (f : Fixed) where
     reach : (len : ℕ) → outputChannels steps * n ≤ len → q * n + n ≤ len
     reach len h = omega (arith, mul-le-mul-right n inside, suc-mul q n)
 
-    module _ (h : Held) (directory : List ℕ) (samples out : List Float) (e : answer f h (run directory samples out) ≡ Accepted) where
+    module _ (h : Changing) (directory : List ℕ) (samples out : List Float) (e : answer f h (run directory samples out) ≡ Accepted) where
       abbrev left : List Float
       left = processed (givenTo f directory samples) (start f h out) .output
 
@@ -172,13 +172,13 @@ module _ (f : Fixed) where
 
     -- ---- a journal
 
-    pub length-written : {h : Held} {es : List Entry} → Went f h es → length (written n q es) ≡ total n es
+    pub length-written : {h : Changing} {es : List Entry} → Went f h es → length (written n q es) ≡ total n es
     length-written none = refl
     length-written (then (set id values ramp) e w) = length-written w
     length-written {h} (then {es = es} (run directory samples out) e w) =
         length-append (part (q * n) n (left h directory samples out e)) (written n q es) ∙ rw (part-length h directory samples out e, length-written w)
 
-    pub run-at : {h : Held} {es : List Entry} → Went f h es → (t : ℕ) → t < total n es
+    pub run-at : {h : Changing} {es : List Entry} → Went f h es → (t : ℕ) → t < total n es
         → RunAt (momentAt n steps (nodesOf h) es t) (getD (written n q es) t nan)
     run-at none t l = absurd (not-suc-le-zero l)
     run-at {h} (then {es = es} (set id values ramp) e w) t l =

@@ -22,7 +22,7 @@ use Rattle.mix.specs.Mix.{NotIn}
 use Rattle.plan.specs.Resolved.{Resolved, patch, gain, matrix, clear, send, output, nodeNamed, dstOf}
 use Rattle.run.specs.Run.{State, stepped}
 use Rattle.run.proofs.States.{step-lengths}
-use Rattle.theorem.proofs.Agree.{All, Hold}
+use Rattle.theorem.proofs.Agree.{All, BufferRoom}
 
 -- a step's node is one of `count`, and the buffers that it writes are among m
 abbrev pub InPlan : ℕ → ℕ → Resolved → Type 0
@@ -136,7 +136,7 @@ module _ (count m b₁ k₁ b₂ k₂ : ℕ) (h₁ : k₁ < b₁) (h₂ : k₂ <
           steady = e .1;
         }
 
-    pub hold-step : (x : Resolved) → Hold b₁ k₁ b₂ k₂ h₁ h₂ m (s₁ .buffers) (s₂ .buffers)
-        → Hold b₁ k₁ b₂ k₂ h₁ h₂ m (stepped b₁ input₁ x s₁ .buffers) (stepped b₂ input₂ x s₂ .buffers)
+    pub hold-step : (x : Resolved) → BufferRoom b₁ k₁ b₂ k₂ h₁ h₂ m (s₁ .buffers) (s₂ .buffers)
+        → BufferRoom b₁ k₁ b₂ k₂ h₁ h₂ m (stepped b₁ input₁ x s₁ .buffers) (stepped b₂ input₂ x s₂ .buffers)
     hold-step x h =
         record { first = rw (step-lengths b₁ input₁ x s₁ .buffers) (h .first); second = rw (step-lengths b₂ input₂ x s₂ .buffers) (h .second) }

@@ -1,7 +1,7 @@
 -- The two-list theorem: demand 3 as specs/Statement.antt has it. Two builds of the same accepted calls hold one draft, so it is what `drafts-agree`
 -- says of them. Assumes nothing.
 use Prim.Native.Nat.{ℕ}
-use Rattle.theorem.specs.Builds.{grown, fixed, held}
+use Rattle.theorem.specs.Builds.{grown, fixed, changing}
 use Rattle.theorem.specs.Statement.{Lists, a, b, Given, ListedCarryEqual, SameOutput}
 use Rattle.theorem.proofs.CleanPlans.{clean-sound}
 use Rattle.theorem.proofs.OneDraft.{drafts-agree}
@@ -13,12 +13,12 @@ pub two-lists : (l : Lists) → Given l → (s : ℕ) → ListedCarryEqual l s �
 two-lists l given =
     let x = l .first in
     let y = l .second in
-    let inside = clean-sound (fixed x) (held x .words) (given .clean) .inside in
-    drafts-agree (fixed x) (fixed y) (held x) (held y) (l .firstCalls) (l .secondCalls) (a l) (b l)
+    let inside = clean-sound (fixed x) (changing x .words) (given .clean) .inside in
+    drafts-agree (fixed x) (fixed y) (changing x) (changing y) (l .firstCalls) (l .secondCalls) (a l) (b l)
     (record {
       first-block = block-kept x;
       second-block = block-kept y;
-      one-draft = one-draft (grown x) (grown y) (draft x) (holds x) (holds-too x y (given .same-calls)) inside (held x .buffers) (held y .buffers);
+      one-draft = one-draft (grown x) (grown y) (draft x) (holds x) (holds-too x y (given .same-calls)) inside (changing x .buffers) (changing y .buffers);
       clean = given .clean;
       same-total = given .same-total;
       alike = given .alike;

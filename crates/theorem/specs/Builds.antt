@@ -7,16 +7,16 @@ use Rattle.refusal.specs.declared.Answer.the-variants.{Accepted}
 use Rattle.plan.specs.Limits.{unitLimits}
 use Rattle.plan.specs.Areas.{Areas}
 use Rattle.builder.specs.Calls.{newAnswer, emptyPlan, finishAnswer, finishArea}
-use Rattle.builder.specs.Built.{Call, buffers, coefficients, node, step, State, built, accepted}
-use Rattle.run.specs.Calls.{Fixed, Held}
+use Rattle.builder.specs.Built.{BuilderCall, buffers, coefficients, node, step, BuilderState, built, accepted}
+use Rattle.run.specs.Calls.{Fixed, Changing}
 
 pub record Build : Type 0 where
   pub block : ℕ
   pub lent : Areas
-  pub calls : List Call
+  pub calls : List BuilderCall
 
 -- the plan and the areas after `new`, and after the calls, of which a refused one changes nothing
-abbrev pub begun : Build → State
+abbrev pub begun : Build → BuilderState
 begun b =
     record {
       plan = emptyPlan (b .block);
@@ -27,11 +27,11 @@ begun b =
       steps = b .lent .stepWords;
     }
 
-abbrev pub grown : Build → State
+abbrev pub grown : Build → BuilderState
 grown b = built unitLimits (begun b) (b .calls)
 
 -- the calls that were accepted, in order
-abbrev pub acceptedCalls : Build → List Call
+abbrev pub acceptedCalls : Build → List BuilderCall
 acceptedCalls b = accepted unitLimits (begun b) (b .calls)
 
 -- `new` and `finish` are accepted
@@ -43,11 +43,11 @@ pub record Finished (b : Build) : Type 0 where
 abbrev pub fixed : Build → Fixed
 fixed b = record { plan = grown b .plan; indices = grown b .indices; coefficients = grown b .coefficients; steps = grown b .steps }
 
-abbrev pub held : Build → Held
-held b = record { floats = grown b .floats; words = grown b .words; buffers = finishArea unitLimits (grown b .plan) (b .lent .buffers) }
+abbrev pub changing : Build → Changing
+changing b = record { floats = grown b .floats; words = grown b .words; buffers = finishArea unitLimits (grown b .plan) (b .lent .buffers) }
 
 -- every ramp given to the builder is 0
-abbrev pub NoRampBuilt : List Call → Type 0
+abbrev pub NoRampBuilt : List BuilderCall → Type 0
 NoRampBuilt [] = Unit {0}
 NoRampBuilt (buffers n ∷ cs) = NoRampBuilt cs
 NoRampBuilt (coefficients xs ∷ cs) = NoRampBuilt cs

@@ -9,7 +9,7 @@ use Rattle.lists.specs.Parts.{part}
 use Rattle.refusal.specs.Tests.{outcome}
 use Rattle.input.specs.Input.{lookup}
 use Rattle.run.specs.Run.{processed}
-use Rattle.run.specs.Calls.{Fixed, Held, Call, set, run, givenTo, start, answer, after}
+use Rattle.run.specs.Calls.{Fixed, Changing, Call, set, run, givenTo, start, answer, after}
 
 -- an accepted setting; an accepted run, with the output area as it left it
 pub data Entry : Type 0 where
@@ -18,11 +18,11 @@ pub data Entry : Type 0 where
 
 -- "each gets the plan's block and counts as `finish` left them and the plan's areas as the call before left them"
 module _ (f : Fixed) where
-  abbrev pub entry : Held → Call → Entry
+  abbrev pub entry : Changing → Call → Entry
   entry h (set id values ramp) = setting id ramp values
   entry h (run directory samples out) = ran directory samples (processed (givenTo f directory samples) (start f h out) .output)
 
-  abbrev pub journal : Held → List Call → List Entry
+  abbrev pub journal : Changing → List Call → List Entry
   journal h [] = []
   journal h (c ∷ cs) = outcome (answer f h c) (entry h c ∷ journal (after f h c) cs) (λ _. journal (after f h c) cs)
 

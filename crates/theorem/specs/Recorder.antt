@@ -10,14 +10,14 @@ use Rattle.lists.specs.Parts.{part}
 use Rattle.refusal.specs.declared.Answer.the-variants.{Accepted}
 use Rattle.input.specs.Input.{lookup}
 use Rattle.run.specs.Run.{processed}
-use Rattle.run.specs.Calls.{Fixed, Held, run, givenTo, start, answer}
+use Rattle.run.specs.Calls.{Fixed, Changing, run, givenTo, start, answer}
 
 -- the inputs of a run: a directory and its samples
 pub record Inputs : Type 0 where
   pub directory : List ℕ
   pub samples : List Float
 
-module _ (f : Fixed) (h : Held) (output : List Float) where
+module _ (f : Fixed) (h : Changing) (output : List Float) where
   abbrev pub block : ℕ
   block = f .plan .block
 

@@ -10,7 +10,7 @@ use Rattle.lists.specs.Entries.{has}
 use Rattle.plan.specs.Resolved.{Resolved, output}
 use Rattle.run.specs.Run.{outputChannels}
 use Rattle.run.specs.Calls.{Call, stepsOfPlan}
-use Rattle.theorem.specs.Builds.{Build, Finished, acceptedCalls, fixed, held, NoRampBuilt}
+use Rattle.theorem.specs.Builds.{Build, Finished, acceptedCalls, fixed, changing, NoRampBuilt}
 use Rattle.theorem.specs.Traced.{IsClean, listFor}
 use Rattle.theorem.specs.Journal.{Entry, journal, total, settingsFrom, written, Absent, Whole, carried, NoRampSet}
 
@@ -42,10 +42,10 @@ module _ (l : Lists) where
 
   -- the accepted calls of each list
   abbrev pub firstJournal : List Entry
-  firstJournal = journal (fixed (l .first)) (held (l .first)) (l .firstCalls)
+  firstJournal = journal (fixed (l .first)) (changing (l .first)) (l .firstCalls)
 
   abbrev pub secondJournal : List Entry
-  secondJournal = journal (fixed (l .second)) (held (l .second)) (l .secondCalls)
+  secondJournal = journal (fixed (l .second)) (changing (l .second)) (l .secondCalls)
 
   -- the list that the trace of the first build gives for slot s
   abbrev pub listBehind : ℕ → List ℕ
@@ -65,7 +65,7 @@ module _ (l : Lists) where
     -- "built twice by the same builder calls": "The builds share their accepted builder calls, in order, all but the block length"
     pub same-calls : acceptedCalls (l .first) ≡ acceptedCalls (l .second)
     -- "a clean plan", by the clean answer of the first build
-    pub clean : IsClean (fixed (l .first)) (held (l .first))
+    pub clean : IsClean (fixed (l .first)) (changing (l .first))
     -- "the accepted runs of each add up to T samples"
     pub same-total : total a firstJournal ≡ total b secondJournal
     -- "and the accepted settings are alike, in the same order at the same samples"

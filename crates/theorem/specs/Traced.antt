@@ -5,10 +5,10 @@ use mathlib.Core.List.{List}
 use Rattle.trace.specs.Sources.{sourceList}
 use Rattle.trace.specs.Calls.{tracedSteps, cleanAnswer}
 use Rattle.trace.specs.declared.CleanAnswer.the-variants.{Clean}
-use Rattle.run.specs.Calls.{Fixed, Held}
+use Rattle.run.specs.Calls.{Fixed, Changing}
 
 -- the plan is clean, by the clean answer
-abbrev pub IsClean : Fixed → Held → Type 0
+abbrev pub IsClean : Fixed → Changing → Type 0
 IsClean f h = cleanAnswer (f .plan) (f .indices) (h .words) (f .steps) ≡ Clean
 
 -- the list that the trace gives for slot s

@@ -20,7 +20,7 @@ use Rattle.plan.specs.Sound.{Inside, Each, stepsOf, Sound}
 use Rattle.plan.specs.Resolved.{Resolved, patch, gain, matrix, clear, send, output, resolved, resolvedSteps, inputNamed}
 use Rattle.plan.proofs.Named.{input-inside, slot-inside, slot-named}
 use Rattle.trace.specs.Sources.{noSources, union, spread, joins, behind, sourceList, slotCount}
-use Rattle.trace.specs.Clean.{noneWritten, written, cleanStep, cleanFrom, clean}
+use Rattle.trace.specs.Clean.{noneWritten, writtenAfter, cleanStep, cleanFrom, clean}
 use Rattle.trace.specs.Calls.{tracedSteps}
 
 -- ---- no coefficient is read
@@ -42,7 +42,7 @@ module _ (p : Plan) (indices : List ℕ) (xs ys : List Float) where
   count-alike (x ∷ ss) = rw (slot-named p indices xs x, slot-named p indices ys x, count-alike ss)
 
   clean-alike : (w : ℕ → Bool) (ss : List Step) → cleanFrom w (map (resolved p indices xs) ss) ≡ cleanFrom w (map (resolved p indices ys) ss)
-  unfolding cleanFrom cleanStep written
+  unfolding cleanFrom cleanStep writtenAfter
   clean-alike w [] = refl
   clean-alike w (Patch n c d ∷ ss) = clean-alike _ ss
   clean-alike w (Gain n a d ∷ ss) = ap (λ (b : Bool). cleanStep w (resolved p indices xs (Gain n a d)) && b) (clean-alike _ ss)

@@ -13,13 +13,13 @@ abbrev pub noneWritten : ℕ → Bool
 noneWritten b = false
 
 -- whether buffer b was a dst of Patch, Clear, Gain or Matrix, once a step has gone by
-unfoldable pub written : (ℕ → Bool) → Resolved → ℕ → Bool
-written w (patch input channel dst) b = eqb b dst || w b
-written w (gain node src dst) b = has dst b || w b
-written w (matrix node src dst) b = has dst b || w b
-written w (clear dst) b = has dst b || w b
-written w (send node src dst weights) b = w b
-written w (output src slot) b = w b
+unfoldable pub writtenAfter : (ℕ → Bool) → Resolved → ℕ → Bool
+writtenAfter w (patch input channel dst) b = eqb b dst || w b
+writtenAfter w (gain node src dst) b = has dst b || w b
+writtenAfter w (matrix node src dst) b = has dst b || w b
+writtenAfter w (clear dst) b = has dst b || w b
+writtenAfter w (send node src dst weights) b = w b
+writtenAfter w (output src slot) b = w b
 
 -- every buffer of a list
 unfoldable pub all : (ℕ → Bool) → List ℕ → Bool
@@ -38,9 +38,9 @@ cleanStep w (output src slot) = all w src
 
 -- a list of steps that starts where the buffers w are written
 unfoldable pub cleanFrom : (ℕ → Bool) → List Resolved → Bool
-unfolding written cleanStep
+unfolding writtenAfter cleanStep
 cleanFrom w [] = true
-cleanFrom w (x ∷ xs) = cleanStep w x && cleanFrom (written w x) xs
+cleanFrom w (x ∷ xs) = cleanStep w x && cleanFrom (writtenAfter w x) xs
 
 unfoldable pub clean : List Resolved → Bool
 unfolding cleanFrom

@@ -20,7 +20,7 @@ use Rattle.plan.specs.Resolved.{Resolved, resolved}
 use Rattle.plan.proofs.Answers.{rest-of}
 use Rattle.plan.proofs.Words.{decoded-on, decoded-bad, decoded-none}
 use Rattle.plan.proofs.Accepted.{pass-placed, pass-rest}
-use Rattle.trace.specs.Clean.{noneWritten, written, all, cleanStep, cleanFrom, clean}
+use Rattle.trace.specs.Clean.{noneWritten, writtenAfter, all, cleanStep, cleanFrom, clean}
 
 -- ---- a list of buffers, of which k are in the set
 module _ (w : ℕ → Bool) (xs : List ℕ) where
@@ -56,8 +56,8 @@ module _ (p : Plan) (indices : List ℕ) (w : ℕ → Bool) {x y : Step} (e : x 
   pub clean-as : {t : Bool} → t ≡ cleanStep w (resolved p indices [] y) → t ≡ cleanStep w (resolved p indices [] x)
   clean-as h = h ∙ ap (λ (z : Step). cleanStep w (resolved p indices [] z)) (sym e)
 
-  pub written-as : (s : Set) → ((b : ℕ) → member s b ≡ written w (resolved p indices [] y) b) → (b : ℕ) → member s b ≡ written w (resolved p indices [] x) b
-  written-as s h b = h b ∙ ap (λ (z : Step). written w (resolved p indices [] z) b) (sym e)
+  pub written-as : (s : Set) → ((b : ℕ) → member s b ≡ writtenAfter w (resolved p indices [] y) b) → (b : ℕ) → member s b ≡ writtenAfter w (resolved p indices [] x) b
+  written-as s h b = h b ∙ ap (λ (z : Step). writtenAfter w (resolved p indices [] z) b) (sym e)
 
 -- ---- between two steps
 module _ (p : Plan) (indices w : List ℕ) where
@@ -90,7 +90,7 @@ module _ (p : Plan) (indices w : List ℕ) where
       pub cleaning-fits : Placed p indices x × (p .buffers ≤ unitLimits .buffers)
       cleaning-fits = (pass-placed p indices w at (rest-of h) (c .pass) r (c .plan .list), c .plan .list .few)
 
-      turn : whole ≡ (cleanStep (member set) (resolved p indices [] x) && cleanFrom (written (member set) (resolved p indices [] x)) (from (i + 1) next))
+      turn : whole ≡ (cleanStep (member set) (resolved p indices [] x) && cleanFrom (writtenAfter (member set) (resolved p indices [] x)) (from (i + 1) next))
       unfolding cleanFrom
       turn = c .so ∙ ap (λ (ss : List Step). cleanFrom (member set) (map (resolved p indices []) ss)) (decoded-on w at (rest-of h) r)
 
@@ -98,16 +98,16 @@ module _ (p : Plan) (indices w : List ℕ) where
       cleaning-no e = sym (turn ∙ rw e)
 
       pub cleaning-on : (set′ : Set) → cleanStep (member set) (resolved p indices [] x) ≡ true
-          → ((b : ℕ) → member set′ b ≡ written (member set) (resolved p indices [] x) b) → Cleaning set′ next (i + 1)
+          → ((b : ℕ) → member set′ b ≡ writtenAfter (member set) (resolved p indices [] x) b) → Cleaning set′ next (i + 1)
       cleaning-on set′ e m =
-          let f : written (member set) (resolved p indices [] x) ≡ member set′ = λ t b. sym (m b) t in
+          let f : writtenAfter (member set) (resolved p indices [] x) ≡ member set′ = λ t b. sym (m b) t in
           record {
             turns = omega arith;
             plan = c .plan;
             pass = pass-rest p indices w at (rest-of h) (c .pass) r;
             so =
                 turn
-                ∙ ap (λ (t : Bool). t && cleanFrom (written (member set) (resolved p indices [] x)) (from (i + 1) next)) e
+                ∙ ap (λ (t : Bool). t && cleanFrom (writtenAfter (member set) (resolved p indices [] x)) (from (i + 1) next)) e
                 ∙ ap (λ (g : ℕ → Bool). cleanFrom g (from (i + 1) next)) f;
           }
 

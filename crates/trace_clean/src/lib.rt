@@ -17,7 +17,7 @@ ghost use Rattle.plan.specs.Words.{decoded};
 ghost use Rattle.plan.specs.Check.{named};
 ghost use Rattle.plan.specs.Sound.{Within, Names, Placed, Tested};
 ghost use Rattle.plan.specs.Resolved.{resolved};
-ghost use Rattle.trace.specs.Clean.{written, all, cleanStep, clean};
+ghost use Rattle.trace.specs.Clean.{writtenAfter, all, cleanStep, clean};
 
 // Every buffer of a list is in the set.
 fn all_in(set: Set, list: &[u32]) -> bool
@@ -78,9 +78,9 @@ fn clean_step(plan: Plan, set: Set, indices: &[u32], step: Step) -> bool
 }
 
 // The buffers that are written once the step has gone by. Requires as `clean_step`.
-fn written(plan: Plan, set: Set, indices: &[u32], step: Step) -> Set
+fn writtenAfter(plan: Plan, set: Set, indices: &[u32], step: Step) -> Set
     requires { ⌜ Placed plan (now indices) step × (plan .buffers ≤ unitLimits .buffers) ⌝ }
-    ensures { λ r. ⌜ ((b : ℕ) → member r b ≡ written (member set) (resolved plan (now (indices .entry)) [] step) b) ⌝ }
+    ensures { λ r. ⌜ ((b : ℕ) → member r b ≡ writtenAfter (member set) (resolved plan (now (indices .entry)) [] step) b) ⌝ }
 {
     match step {
         Step::Patch {
@@ -124,7 +124,7 @@ pub fn all_clean(plan: Plan, indices: &[u32], steps: &[u32]) -> bool
         if !clean_step(plan, set, indices, step) {
             return false;
         }
-        set = written(plan, set, indices, step);
+        set = writtenAfter(plan, set, indices, step);
         at = next;
     }
     true

@@ -3,7 +3,7 @@ use mathlib.Core.Path.{_≡_, refl, sym, _∙_}
 use lib.Seq.{length-take-le}
 use Rattle.refusal.specs.declared.Answer.the-variants.{Accepted}
 use Rattle.input.proofs.Input.{directory-good}
-use Rattle.run.specs.Run.{Given, State, given, state, admission}
+use Rattle.run.specs.Run.{RunGiven, State, given, state, admission}
 use Rattle.run.proofs.Admitted.{Admitted, admitted}
 use Rattle.run.proofs.Answers.{returned-refused, returned-accepted}
 use borrow.Author.Needs.{needs}
@@ -11,7 +11,7 @@ use Rattle.run_process.proofs.process.Statement.{statement}
 use Rattle.run_process.proofs.process.Tie as tie
 
 -- what the run reads, and what it changes
-abbrev g : tie.Start → Given
+abbrev g : tie.Start → RunGiven
 g s = given (s .args .plan) (s .args .indices .now) (s .args .coefficients .now) (s .args .steps .now) (s .args .directory .now) (s .args .samples .now)
 
 abbrev st : tie.Start → State

@@ -5,7 +5,7 @@ use native.Mathlib.Omega.{arith}
 use lib.Dec.{eqb}
 use borrow.Author.Needs.{needs}
 use Rattle.sets.specs.Sets.{member}
-use Rattle.trace.specs.Clean.{written}
+use Rattle.trace.specs.Clean.{writtenAfter}
 use Rattle.trace_clean.proofs.Cleaning.{placed-as, written-as}
 use Rattle.trace_clean.proofs.written.Statement.{statement}
 use Rattle.trace_clean.proofs.written.Tie as tie
@@ -53,7 +53,7 @@ enum-told-2 : tie.Need-enum-told-2
 enum-told-2 c = search needs
 
 returns : tie.Need-returns
-unfolding written
+unfolding writtenAfter
 returns c =
     let a = c .before .before .before .before .before .args in
     let k = c .before .before .step .given in
@@ -61,31 +61,31 @@ returns c =
     (λ b. c .with .ensures b ∙ or-comm (member (a .set) b) (eqb b (k .0 .1 .1 .0)))
 
 returns-2 : tie.Need-returns-2
-unfolding written
+unfolding writtenAfter
 returns-2 c =
     let a = c .before .before .before .before .before .args in
     written-as (a .plan) (a .indices .now) (member (a .set)) (c .before .before .step2 .given .1) (c .with-span .result) (c .with-span .ensures)
 
 returns-3 : tie.Need-returns-3
-unfolding written
+unfolding writtenAfter
 returns-3 c =
     let a = c .before .before .before .before .before .args in
     written-as (a .plan) (a .indices .now) (member (a .set)) (c .before .before .step3 .given .1) (c .with-span2 .result) (c .with-span2 .ensures)
 
 returns-4 : tie.Need-returns-4
-unfolding written
+unfolding writtenAfter
 returns-4 c =
     let a = c .before .before .before .before .before .args in
     written-as (a .plan) (a .indices .now) (member (a .set)) (c .before .before .step4 .given .1) (c .with-span3 .result) (c .with-span3 .ensures)
 
 returns-5 : tie.Need-returns-5
-unfolding written
+unfolding writtenAfter
 returns-5 c =
     let a = c .before .before .before .args in
     written-as (a .plan) (a .indices .now) (member (a .set)) (c .enum-told .given .1) (a .set) (λ b. refl)
 
 returns-6 : tie.Need-returns-6
-unfolding written
+unfolding writtenAfter
 returns-6 c =
     let a = c .before .before .before .args in
     written-as (a .plan) (a .indices .now) (member (a .set)) (c .enum-told2 .given .1) (a .set) (λ b. refl)

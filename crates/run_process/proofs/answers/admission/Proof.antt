@@ -11,14 +11,14 @@ use Rattle.plan.specs.Sound.{stepsOf}
 use Rattle.plan.proofs.Answers.{was-accepted, was-refused}
 use Rattle.plan.specs.Loops.{channelsOf}
 use Rattle.input.specs.Input.{directoryBad}
-use Rattle.run.specs.Run.{Given, State, given, state}
+use Rattle.run.specs.Run.{RunGiven, State, given, state}
 use Rattle.run.proofs.Admitted.{Checked, tested, areas-of, by-plan, by-14, by-12, by-13, by-none}
 use borrow.Author.Needs.{needs}
 use Rattle.run_process.proofs.answers.admission.Statement.{statement}
 use Rattle.run_process.proofs.answers.admission.Tie as tie
 
 -- what the run reads, and what it changes
-abbrev g : tie.Start → Given
+abbrev g : tie.Start → RunGiven
 g s = given (s .args .plan) (s .args .indices .now) (s .args .coefficients .now) (s .args .steps .now) (s .args .directory .now) (s .args .samples .now)
 
 abbrev st : tie.Start → State

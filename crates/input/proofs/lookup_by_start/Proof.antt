@@ -1,9 +1,9 @@
--- `input::lookup_first` meets its contract. Assumes nothing.
+-- `input::lookup_by_start` meets its contract. Assumes nothing.
 use native.Mathlib.Omega.{arith}
-use Rattle.input.proofs.Firsts.{firsts-skip}
+use Rattle.input.proofs.Starts.{starts-skip}
 use borrow.Author.Needs.{needs}
-use Rattle.input.proofs.lookup_first.Statement.{statement}
-use Rattle.input.proofs.lookup_first.Tie as tie
+use Rattle.input.proofs.lookup_by_start.Statement.{statement}
+use Rattle.input.proofs.lookup_by_start.Tie as tie
 
 mul-first : tie.Need-mul-first
 mul-first c = search needs
@@ -17,10 +17,10 @@ cast-first c = omega (arith, c .shared-slice-known4 .given (c .before .before .b
 lookup-from-requires : tie.Need-lookup-from-requires
 lookup-from-requires c κs =
     let s = c .before .before .before .before in
-    firsts-skip (s .args .directory .now) (s .args .firsts .now) (s .pre .1) (s .args .input) (s .args .channel)
+    starts-skip (s .args .directory .now) (s .args .starts .now) (s .pre .1) (s .args .input) (s .args .channel)
 
 returns : tie.Need-returns
 returns c = search needs
 
-pub lookup-first-spec : {M : Type 1} → statement M
-lookup-first-spec = tie.close (tie.spec mul-first shared-slice-read-first cast-first lookup-from-requires returns)
+pub lookup-by-start-spec : {M : Type 1} → statement M
+lookup-by-start-spec = tie.close (tie.spec mul-first shared-slice-read-first cast-first lookup-from-requires returns)

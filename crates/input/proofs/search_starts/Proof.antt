@@ -1,20 +1,20 @@
--- `input::first_entries` meets its contract: the invariant is that the entries from `entry` on were gone through. Assumes nothing.
+-- `input::search_starts` meets its contract: the invariant is that the entries from `entry` on were gone through. Assumes nothing.
 use mathlib.Core.Path.{_≡_, refl}
 use Prim.Native.Nat.{_≤_, _-_}
 use native.Mathlib.Omega.{arith}
 use lib.ListN.{length, length-set}
 use Rattle.plan.specs.Limits.{inputs}
 use Rattle.input.specs.Input.{entries}
-use Rattle.input.proofs.Firsts.{From, from-past, from-named}
+use Rattle.input.proofs.Starts.{From, from-past, from-named}
 use borrow.Author.Needs.{needs}
-use Rattle.input.proofs.first_entries.Statement.{statement}
-use Rattle.input.proofs.first_entries.Tie as tie
+use Rattle.input.proofs.search_starts.Statement.{statement}
+use Rattle.input.proofs.search_starts.Tie as tie
 
 abbrev Inv-loop : tie.InvT-loop
-Inv-loop directory firsts₀ entry₀ firsts entry = (entry ≤ entries directory) × (length firsts ≡ inputs) × From directory entry firsts
+Inv-loop directory starts₀ entry₀ starts entry = (entry ≤ entries directory) × (length starts ≡ inputs) × From directory entry starts
 
 abbrev μ-loop : tie.MeasureT-loop
-μ-loop directory firsts₀ entry₀ firsts entry = entry
+μ-loop directory starts₀ entry₀ starts entry = entry
 
 loop-holds : tie.Need-loop-holds Inv-loop μ-loop
 loop-holds c = search needs
@@ -31,17 +31,17 @@ mul-input-2 c = search needs
 shared-slice-read-input : tie.Need-shared-slice-read-input Inv-loop μ-loop
 shared-slice-read-input c = search needs
 
-cast-firsts : tie.Need-cast-firsts Inv-loop μ-loop
-cast-firsts c = search needs
+cast-starts : tie.Need-cast-starts Inv-loop μ-loop
+cast-starts c = search needs
 
-cast-firsts-2 : tie.Need-cast-firsts-2 Inv-loop μ-loop
-cast-firsts-2 c = search needs
+cast-starts-2 : tie.Need-cast-starts-2 Inv-loop μ-loop
+cast-starts-2 c = search needs
 
-mul-firsts : tie.Need-mul-firsts Inv-loop μ-loop
-mul-firsts c = search needs
+mul-starts : tie.Need-mul-starts Inv-loop μ-loop
+mul-starts c = search needs
 
-element-write-firsts : tie.Need-element-write-firsts Inv-loop μ-loop
-element-write-firsts c = search needs
+element-write-starts : tie.Need-element-write-starts Inv-loop μ-loop
+element-write-starts c = search needs
 
 loop-less : tie.Need-loop-less Inv-loop μ-loop
 loop-less c = search needs
@@ -51,7 +51,7 @@ loop-again c =
     let l = c .before .before .before .loop in
     let a = c .before .before .before .before .args in
     let h = l .inv .1 in
-    (omega arith, rw length-set h, from-named (a .directory .now) (l .entry - 1) {k = l .entry} (omega (arith, c .before .before .loop-test .taken)) (l .firsts) (l .inv .2) _ refl (omega (arith, h, c .if1 .taken)))
+    (omega arith, rw length-set h, from-named (a .directory .now) (l .entry - 1) {k = l .entry} (omega (arith, c .before .before .loop-test .taken)) (l .starts) (l .inv .2) _ refl (omega (arith, h, c .if1 .taken)))
 
 loop-less-2 : tie.Need-loop-less-2 Inv-loop μ-loop
 loop-less-2 c = search needs
@@ -61,7 +61,7 @@ loop-again-2 c =
     let l = c .before .before .before .loop in
     let a = c .before .before .before .before .args in
     let h = l .inv .1 in
-    (omega arith, h, from-past (a .directory .now) (l .entry - 1) {k = l .entry} (omega (arith, c .before .before .loop-test .taken)) (l .firsts) (l .inv .2) (omega (arith, h, c .if1 .left)))
+    (omega arith, h, from-past (a .directory .now) (l .entry - 1) {k = l .entry} (omega (arith, c .before .before .loop-test .taken)) (l .starts) (l .inv .2) (omega (arith, h, c .if1 .left)))
 
 returns : tie.Need-returns Inv-loop μ-loop
 returns c =
@@ -69,8 +69,8 @@ returns c =
     let e : l .entry ≡ 0 = omega arith in
     record { all = l .inv .1; before = λ input j h b w. l .inv .2 input j (omega (arith, e)) h b w }
 
-pub first-entries-spec : {M : Type 1} → statement M
-first-entries-spec =
+pub search-starts-spec : {M : Type 1} → statement M
+search-starts-spec =
     tie.close
     (tie.spec
     Inv-loop
@@ -80,10 +80,10 @@ first-entries-spec =
     mul-input
     mul-input-2
     shared-slice-read-input
-    cast-firsts
-    cast-firsts-2
-    mul-firsts
-    element-write-firsts
+    cast-starts
+    cast-starts-2
+    mul-starts
+    element-write-starts
     loop-less
     loop-again
     loop-less-2
