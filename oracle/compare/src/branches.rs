@@ -33,10 +33,16 @@ pub const REFUSALS: &[(Kind, &[u32])] = &[
 const LONG_BLOCK: &str = "a block of 1,024 samples";
 const LONG_DIRECTORY: &str = "a directory of 512 entries";
 
-/// The passes over whole pieces of 16 samples with two sources at once.
-const TWO_COLUMNS: &str = "Matrix at rest, two columns, neither 0, a block of more than 16 samples";
-const TWO_AT_REST: &str = "Send at rest, two weights that are not 0, a block of more than 16 samples";
-const TWO_RAMPING: &str = "Send ramping, two weights that are not 0, a block of more than 16 samples";
+/// The passes over whole pieces of 16 samples and over the samples after the last one: from one source, from two, and from two to two at once.
+const ONE_GAIN: &str = "Gain of a channel, a block of more than 16 samples that is no multiple of 16";
+const OTHER_COLUMNS: &str = "Matrix of a row and a column, a block of more than 16 samples that is no multiple of 16";
+const TWO_COLUMNS: &str = "Matrix at rest, two columns, neither 0, a block of more than 16 samples that is no multiple of 16";
+const ONE_AT_REST: &str = "Send at rest, one weight, which is not 0, a block of more than 16 samples that is no multiple of 16";
+const ONE_RAMPING: &str = "Send ramping, one weight, which is not 0, a block of more than 16 samples that is no multiple of 16";
+const TWO_AT_REST: &str = "Send at rest, two weights that are not 0, a block of more than 16 samples that is no multiple of 16";
+const TWO_RAMPING: &str = "Send ramping, two weights that are not 0, a block of more than 16 samples that is no multiple of 16";
+const FOUR_AT_REST: &str = "Send at rest, four weights that are not 0 to two buffers, a block of more than 16 samples that is no multiple of 16";
+const FOUR_TO_ONE: &str = "Send at rest, four weights that are not 0 to one buffer twice";
 
 /// Refused with 12 for their form alone.
 pub const MANY_ENTRIES: &str = "refused, a directory of 513 entries";
@@ -73,6 +79,7 @@ pub const BRANCHES: &[&str] = &[
     "Gain ramping",
     "Gain, the ramp ends in the block",
     "Gain, the ramp ends with the block",
+    ONE_GAIN,
     "Gain, dst longer than src",
     "Gain, src longer than dst",
     "Gain of no channels",
@@ -81,6 +88,7 @@ pub const BRANCHES: &[&str] = &[
     "Matrix at rest, a gain of 0",
     "Matrix at rest, a gain of -0",
     TWO_COLUMNS,
+    OTHER_COLUMNS,
     "Matrix ramping",
     "Matrix, the ramp ends in the block",
     "Matrix, the ramp ends with the block",
@@ -96,8 +104,12 @@ pub const BRANCHES: &[&str] = &[
     "Send, the ramp ends with the block",
     "Send, a weight of 0",
     "Send, a weight of -0",
+    ONE_AT_REST,
+    ONE_RAMPING,
     TWO_AT_REST,
     TWO_RAMPING,
+    FOUR_AT_REST,
+    FOUR_TO_ONE,
     "Send of nothing",
     "Send, more weights than it needs",
     "Clear",
@@ -227,9 +239,14 @@ impl Nodes<'_> {
         self.areas.words[WORDS * node as usize + 1]
     }
 
-    /// A row of two factors that are not 0, in a block with a whole piece.
-    fn pairs(&self, columns: u32, factors: &[f32]) -> bool {
-        columns == 2 && self.block > 16 && factors.chunks(2).any(|row| row.iter().all(|w| *w != 0.0))
+    /// A block with a whole piece of 16 samples, and some after the last one.
+    fn uneven(&self) -> bool {
+        self.block > 16 && self.block % 16 != 0
+    }
+
+    /// Such a block, and a row of so many factors that are not 0.
+    fn rows(&self, columns: u32, factors: &[f32], asked: u32) -> bool {
+        columns == asked && self.uneven() && factors.chunks(asked as usize).any(|row| row.iter().all(|w| *w != 0.0))
     }
 
     fn when(&mut self, holds: bool, name: &'static str) {
@@ -256,6 +273,7 @@ impl Nodes<'_> {
                 self.when(src.len > dst.len, "Gain, src longer than dst");
                 self.when(src.len.min(dst.len) == 0, "Gain of no channels");
                 self.when(self.len(node) < src.len.min(dst.len), "Gain, node shorter than the channels");
+                self.when(src.len.min(dst.len) > 0 && self.uneven(), ONE_GAIN);
                 self.uses(node, GAIN);
             }
             Step::Matrix { node, src, dst } => {
@@ -268,8 +286,9 @@ impl Nodes<'_> {
                     let gains = self.target(node)[..(src.len * dst.len) as usize].to_vec();
                     let zeros = gains.iter().filter_map(|g| zero(*g, "Matrix at rest, a gain of 0", "Matrix at rest, a gain of -0"));
                     self.seen.extend(zeros);
-                    self.when(self.pairs(src.len, &gains), TWO_COLUMNS);
+                    self.when(self.rows(src.len, &gains, 2), TWO_COLUMNS);
                 }
+                self.when(src.len == 1 && dst.len > 0 && self.uneven(), OTHER_COLUMNS);
                 self.uses(node, MATRIX);
             }
             Step::Clear { dst } => self.seen.push(if dst.len > 0 { "Clear" } else { "Clear of nothing" }),
@@ -279,9 +298,16 @@ impl Nodes<'_> {
                 self.when(need == 0, "Send of nothing");
                 self.when(weights.len > need, "Send, more weights than it needs");
                 self.seen.extend(used.iter().filter_map(|w| zero(*w, "Send, a weight of 0", "Send, a weight of -0")));
-                let (two, rests) = (self.pairs(src.len, used), self.rests(node));
-                self.when(two && rests && self.target(node)[0] != 0.0, TWO_AT_REST);
+                let to = &l.index[dst.start as usize..][..dst.len as usize];
+                let (one, two, rests) = (self.rows(src.len, used, 1), self.rows(src.len, used, 2), self.rests(node));
+                let four = src.len == 2 && dst.len == 2 && used.iter().all(|w| *w != 0.0);
+                let heard = rests && self.target(node)[0] != 0.0;
+                self.when(one && heard, ONE_AT_REST);
+                self.when(one && !rests, ONE_RAMPING);
+                self.when(two && !four && heard, TWO_AT_REST);
                 self.when(two && !rests, TWO_RAMPING);
+                self.when(four && self.uneven() && heard && to[0] != to[1], FOUR_AT_REST);
+                self.when(four && heard && to[0] == to[1], FOUR_TO_ONE);
                 if rests {
                     self.seen.extend(zero(self.target(node)[0], "Send at rest at 0", "Send at rest at -0"));
                 }

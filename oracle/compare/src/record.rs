@@ -9,7 +9,7 @@ use crate::{recorded_folds, recorded_refusals};
 use std::collections::BTreeMap;
 
 /// Plans of seeds from 1 on are tried.
-const SEEDS: u64 = 100_000;
+const SEEDS: u64 = 300_000;
 /// How often each branch and each refusal of a call is to be reached.
 const TIMES: u32 = 4;
 /// How many plans have their builder calls recorded.
