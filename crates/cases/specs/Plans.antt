@@ -9,6 +9,7 @@ use Rattle.lists.specs.Entries.{someFrom, has, meet}
 use Rattle.refusal.specs.declared.Answer.{Answer}
 use Rattle.refusal.specs.declared.Answer.the-variants.{Accepted}
 use Rattle.node.specs.declared.Node.{Node}
+use Rattle.node.specs.Sizes.{nodeFloats, nodeWords}
 use Rattle.node.specs.Nodes.{newNode, setNode, finishBlock, gainOf, factor, zeroNode}
 use Rattle.node.specs.Areas.{nodeAt, floatsOf, wordsOf, someBad, badNode}
 use Rattle.mix.specs.Samples.{sampled}
@@ -16,7 +17,7 @@ use Rattle.mix.specs.Mix.{added, weighted, sent, columns, weighs}
 use Rattle.plan.specs.Limits.{unitLimits}
 use Rattle.plan.specs.Areas.{Areas, areas}
 use Rattle.plan.specs.Words.{patchMap, clearMap, sendMap, outputMap, stepOf, decodedFrom, decoded}
-use Rattle.plan.specs.Check.{idAmong, idTwice, outside, shares, stepsTests, checkPlan}
+use Rattle.plan.specs.Check.{idAmong, idTwice, outsideBy, shares, stepsTests, checkPlan}
 use Rattle.plan.specs.PlanRecord.{planWith}
 use Rattle.builder.specs.Calls.{numbersFrom, newAnswer, buffersIndices, coefficientsArea, nodeFloatsArea, nodeWordsArea, stepArea, finishAnswer, finishArea}
 use Rattle.builder.specs.Built.{BuilderCall, buffers, coefficients, node, step}
@@ -33,7 +34,7 @@ use Rattle.cases.specs.Numbers.{plusZero}
 
 -- lent areas of zeros, with room for each plan of the table
 abbrev pub lent : Areas
-lent = areas (replicate 4 0) (replicate 1 plusZero) (replicate 72 plusZero) (replicate 3 0) (replicate 19 0) (replicate 6 plusZero)
+lent = areas (replicate 4 0) (replicate 1 plusZero) (replicate nodeFloats plusZero) (replicate nodeWords 0) (replicate 19 0) (replicate 6 plusZero)
 
 abbrev pub build : ℕ → List BuilderCall → Build
 build block calls = record { block = block; lent = lent; calls = calls }
@@ -94,7 +95,7 @@ outputs (ran directory samples out ∷ es) = out ∷ outputs es
 -- Every call of the build is accepted, and the calls after it write these blocks, one for each accepted run. Unfolding it opens all that
 -- they compute with.
 unfoldable pub Writes : Build → List RunCall → List (List Float) → Type 0
-unfolding ones onesIn add sub mul div eq ofInt ofBits newNode setNode finishBlock gainOf factor nodeAt floatsOf wordsOf someBad badNode stepOf decodedFrom decoded someFrom idAmong idTwice outside has meet shares stepsTests newAnswer buffersIndices coefficientsArea nodeFloatsArea nodeWordsArea stepArea finishArea sampled added weighted sent columns weighs processed
+unfolding ones onesIn add sub mul div eq ofInt ofBits newNode setNode finishBlock gainOf factor nodeAt floatsOf wordsOf someBad badNode stepOf decodedFrom decoded someFrom idAmong idTwice outsideBy has meet shares stepsTests newAnswer buffersIndices coefficientsArea nodeFloatsArea nodeWordsArea stepArea finishArea sampled added weighted sent columns weighs processed
 Writes b calls blocks =
     (acceptedCalls b ≡ b .calls)
     × (newAnswer (b .block) ≡ Accepted)
