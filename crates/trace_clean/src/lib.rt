@@ -78,7 +78,7 @@ fn clean_step(plan: Plan, set: Set, indices: &[u32], step: Step) -> bool
 }
 
 // The buffers that are written once the step has gone by. Requires as `clean_step`.
-fn writtenAfter(plan: Plan, set: Set, indices: &[u32], step: Step) -> Set
+fn written(plan: Plan, set: Set, indices: &[u32], step: Step) -> Set
     requires { ⌜ Placed plan (now indices) step × (plan .buffers ≤ unitLimits .buffers) ⌝ }
     ensures { λ r. ⌜ ((b : ℕ) → member r b ≡ writtenAfter (member set) (resolved plan (now (indices .entry)) [] step) b) ⌝ }
 {
@@ -124,7 +124,7 @@ pub fn all_clean(plan: Plan, indices: &[u32], steps: &[u32]) -> bool
         if !clean_step(plan, set, indices, step) {
             return false;
         }
-        set = writtenAfter(plan, set, indices, step);
+        set = written(plan, set, indices, step);
         at = next;
     }
     true
