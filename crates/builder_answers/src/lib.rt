@@ -1,4 +1,4 @@
-// The tests of the builder calls but `buffer`, in their order, by limits that come with the call. None writes.
+// The tests of the builder calls but `buffer`, in their order; those that can meet number 5 are handed the limits. None writes.
 // All of it is for the crates above and not the interface: a function that has a `requires` says in its comment what it takes.
 mod limits;
 

@@ -77,7 +77,7 @@ fn lookup_from<'a>(
     &samples[0..0]
 }
 
-// The channel lookup from the first entry of the input on. Requires an input of a plan, and the first entries of the directory.
+// The channel lookup from the start of the input on. Requires an input of a plan, and the starts of the directory.
 pub fn lookup_by_start<'a>(
     directory: &[u32],
     starts: &[u16],
@@ -88,8 +88,8 @@ pub fn lookup_by_start<'a>(
     requires { ⌜ (input < inputs) × Starts (now directory) (now starts) ⌝ }
     ensures { λ r. ⌜ now r ≡ lookup (now (directory .entry)) (now (samples .entry)) input channel ⌝ }
 {
-    let first = starts[input as usize] as usize;
-    lookup_from(directory, samples, first, input, channel)
+    let start = starts[input as usize] as usize;
+    lookup_from(directory, samples, start, input, channel)
 }
 
 // The channel lookup: the part of the samples that the first entry for the channel names, or an empty part.

@@ -17,7 +17,7 @@ use Rattle.node.specs.declared.Gain.{Gain}
 use Rattle.node.specs.declared.Gain.the-variants.{Rest, Moving}
 use Rattle.node.specs.Nodes.{ramping}
 use Rattle.mix.specs.Samples.{silence, sampled}
-use Rattle.mix.specs.Loops.{wholePiece, mixedInto, mixedAt, twoAt, Apart}
+use Rattle.mix.specs.Loops.{wholePiece, mixedInto, mixedAt, twoAt, PartsApart}
 use Rattle.mix.proofs.Stored.{length-sampled, turn, stored-at, sampled-same}
 
 -- ---- a ramp that lasts to a sample lasts to every one before it
@@ -73,7 +73,7 @@ pub samples-stored : {H : ℕ → Float} (F : ℕ → Float) (a : List Float) (p
 samples-stored {H} F a p m e same = e ∙ ap (λ (l : List Float). sets a p l) (sampled-same m H F same)
 
 -- the first n of a part stored: a sample of a part that does not overlap it
-pub apart-kept : (F : ℕ → Float) (a : List Float) (to m p i n : ℕ) → Apart p to m → i < m → n ≤ m → getD (sets a to (sampled n F)) (p + i) nan ≡ getD a (p + i) nan
+pub apart-kept : (F : ℕ → Float) (a : List Float) (to m p i n : ℕ) → PartsApart p to m → i < m → n ≤ m → getD (sets a to (sampled n F)) (p + i) nan ≡ getD a (p + i) nan
 apart-kept F a to m p i n o l h =
     getD-sets (p + i) a to (sampled n F) nan
     (⊎-elim (λ (u : p + m ≤ to). inl (omega arith)) (λ (u : to + m ≤ p). inr (omega (arith, length-sampled n F))) o)
@@ -120,7 +120,7 @@ piece-two f q f' q' from other to m k a t₀ hf hz ht h₀ same-f same-q e₁ e�
 -- the same two sources into a second part, `next`: its local is made before the first part is stored, which changes none of what it is made of
 pub piece-four : (f q g h : ℕ → Float → Float → Float) (from other to next m k : ℕ) (a t₀ : List Float) {b u₁ u₂ u₃ c : List Float}
     → from + m ≤ length a → other + m ≤ length a → next + m ≤ length a → m ≤ length t₀
-    → Apart from to m → Apart other to m → Apart next to m → b ≡ twoAt f q from other to m k a
+    → PartsApart from to m → PartsApart other to m → PartsApart next to m → b ≡ twoAt f q from other to m k a
     → u₁ ≡ mixedInto (λ k x y. x) 0 (length (midOf next (next + m - next) a)) (midOf next (next + m - next) a) t₀
     → u₂ ≡ mixedInto g k (length (midOf from (from + m - from) a)) (midOf from (from + m - from) a) u₁
     → u₃ ≡ mixedInto h k (length (midOf other (other + m - other) a)) (midOf other (other + m - other) a) u₂

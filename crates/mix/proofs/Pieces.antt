@@ -12,7 +12,7 @@ use lib.Ieee.{Float, nan}
 use Rattle.lists.proofs.Stores.{getD-sets, sets-swap}
 use Rattle.mix.specs.Samples.{sample, sampled, put}
 use Rattle.mix.specs.Mix.{Pair}
-use Rattle.mix.specs.Loops.{wholePiece, twoAt, twoIn, Piece, Apart}
+use Rattle.mix.specs.Loops.{wholePiece, twoAt, twoIn, Piece, PartsApart}
 use Rattle.mix.proofs.Stored.{length-sampled, sampled-same, none-stored, store-more, run-more}
 use Rattle.mix.proofs.Put.{apart-of, begun-other, begun-same, put-same}
 use Rattle.mix.proofs.Mixed.{apart-kept}
@@ -32,10 +32,10 @@ module _ (f q : ℕ → Float → Float → Float) (from other to k : ℕ) (a : 
   pub none-done : LastStored 0 a
   none-done = (refl, none-stored one a to)
 
-  pub one-done : (m i : ℕ) {b c : List Float} → Apart from to m → Apart other to m → i < m → LastStored i b
+  pub one-done : (m i : ℕ) {b c : List Float} → PartsApart from to m → PartsApart other to m → i < m → LastStored i b
       → c ≡ set b (to + i) (q (k + i) (getD b (other + i) nan) (f (k + i) (getD b (from + i) nan) (getD b (to + i) nan))) → LastStored (i + 1) c
   one-done m i {b} {c} of oz l e g =
-      let held : (p : ℕ) → Apart p to m → getD b (p + i) nan ≡ getD a (p + i) nan =
+      let held : (p : ℕ) → PartsApart p to m → getD b (p + i) nan ≡ getD a (p + i) nan =
       λ p o. ap (λ (w : List Float). getD w (p + i) nan) (e .1) ∙ apart-kept one a to m p i i o l (omega arith) in
       let own : getD b (to + i) nan ≡ getD a (to + i) nan =
       ap (λ (w : List Float). getD w (to + i) nan) (e .1) ∙ getD-sets (to + i) a to (sampled i one) nan (inr (omega (arith, length-sampled i one))) in
@@ -52,7 +52,7 @@ module _ (f q : ℕ → Float → Float → Float) (from other to k : ℕ) (a : 
 
 -- m samples of two buffers, from sample n on
 pub piece-of : {block s d : ℕ} {a b : List Float} → Pair block s d a → length b ≡ length a → (n m : ℕ) → n + m ≤ block → m ≤ wholePiece
-    → Piece (s * block + n) (d * block + n) m n b × Apart (s * block + n) (d * block + n) m
+    → Piece (s * block + n) (d * block + n) m n b × PartsApart (s * block + n) (d * block + n) m
 piece-of {block} {s} {d} p e n m h l = (
   record {
     source = omega (arith, p .source);

@@ -55,8 +55,8 @@ pub record Piece (from to m k : ℕ) (area : List Float) : Type 0 where
   pub within : k + m ≤ maxRamp
 
 -- two parts of m samples that do not overlap
-abbrev pub Apart : ℕ → ℕ → ℕ → Type 0
-Apart from to m = (from + m ≤ to) ⊎ (to + m ≤ from)
+abbrev pub PartsApart : ℕ → ℕ → ℕ → Type 0
+PartsApart from to m = (from + m ≤ to) ⊎ (to + m ≤ from)
 
 -- two columns and two rows of a Send, the rows different, with four weights that are not 0
 pub record Four (src dst : List ℕ) (weights : List Float) : Type 0 where

@@ -16,7 +16,7 @@ ghost use Rattle.node.specs.Nodes.{gainAt};
 ghost use Rattle.node.specs.declared.Gain.the-variants as gain;
 ghost use Rattle.mix.specs.Samples.{silence, sample, sampled, put};
 ghost use Rattle.mix.specs.Mix.{added, clearBuffer, columns, rows, Inside, AllInside, Pair, Row, Buffers, Values};
-ghost use Rattle.mix.specs.Loops.{plusScaled, rowSample, twoAt, Piece, Apart, wholePiece};
+ghost use Rattle.mix.specs.Loops.{plusScaled, rowSample, twoAt, Piece, PartsApart, wholePiece};
 
 // The m samples from p on added to the first m of t, by a gain from sample j on; a gain at rest equal to 0 is skipped. Requires at most a piece
 // of a block, within the area.
@@ -191,8 +191,8 @@ fn sum_two_last(
     a: f32,
     b: f32,
 )
-    requires { ⌜ Piece from to m k (now area) × Apart from to m ⌝ }
-    requires { ⌜ Piece other to m k (now area) × Apart other to m ⌝ }
+    requires { ⌜ Piece from to m k (now area) × PartsApart from to m ⌝ }
+    requires { ⌜ Piece other to m k (now area) × PartsApart other to m ⌝ }
     ensures { λ _. ⌜ now (area .exit) ≡ twoAt (λ k x y. plusScaled (gain.Rest a) k x silence) (plusScaled (gain.Rest b)) from other to m k (now (area .entry)) ⌝ }
 {
     for i in 0..m {

@@ -12,7 +12,7 @@ ghost use mathlib.Core.Path.{_≡_};
 ghost use Rattle.node.specs.declared.Gain.the-variants as gain;
 ghost use Rattle.mix.specs.Samples.{sample, put};
 ghost use Rattle.mix.specs.Mix.{Pair};
-ghost use Rattle.mix.specs.Loops.{plusScaled, plusWeighted, twoAt, twoIn, Piece, Apart};
+ghost use Rattle.mix.specs.Loops.{plusScaled, plusWeighted, twoAt, twoIn, Piece, PartsApart};
 
 // d += s × a, then d += z × b, for m samples, from sample k on. Requires at most a piece of a block, with all parts within the area.
 fn add_two_piece(
@@ -47,8 +47,8 @@ fn add_two_last(
     a: f32,
     b: f32,
 )
-    requires { ⌜ Piece from to m k (now area) × Apart from to m ⌝ }
-    requires { ⌜ Piece other to m k (now area) × Apart other to m ⌝ }
+    requires { ⌜ Piece from to m k (now area) × PartsApart from to m ⌝ }
+    requires { ⌜ Piece other to m k (now area) × PartsApart other to m ⌝ }
     ensures { λ _. ⌜ now (area .exit) ≡ twoAt (plusScaled (gain.Rest a)) (plusScaled (gain.Rest b)) from other to m k (now (area .entry)) ⌝ }
 {
     for i in 0..m {
@@ -163,9 +163,9 @@ fn add_four_piece(
     f: f32,
     h: f32,
 )
-    requires { ⌜ Piece from to m k (now area) × Apart from to m ⌝ }
-    requires { ⌜ Piece other to m k (now area) × Apart other to m ⌝ }
-    requires { ⌜ Piece next to m k (now area) × Apart next to m ⌝ }
+    requires { ⌜ Piece from to m k (now area) × PartsApart from to m ⌝ }
+    requires { ⌜ Piece other to m k (now area) × PartsApart other to m ⌝ }
+    requires { ⌜ Piece next to m k (now area) × PartsApart next to m ⌝ }
     ensures { λ _. ⌜ now (area .exit) ≡ twoAt (plusScaled (gain.Rest f)) (plusScaled (gain.Rest h)) from other next m k (twoAt (plusScaled (gain.Rest a)) (plusScaled (gain.Rest b)) from other to m k (now (area .entry))) ⌝ }
 {
     let mut t = [0.0f32; PIECE];

@@ -1,5 +1,5 @@
 // One buffer into another, in whole pieces: the source's part is handed on to the loop, and the destination's samples go through a local,
-// since two parts of one area cannot be lent at once. The samples after the last whole piece go one by one, or on a ramp as a shorter piece.
+// since two parts of one area cannot be lent at once. The samples after the last whole piece go one by one, or on a Send's ramp as a shorter piece.
 // All of it is for the crates above and not the interface: a function that has a `requires` says in its comment what it takes.
 use mix_samples::PIECE;
 use mix_samples::add_samples;
@@ -13,7 +13,7 @@ ghost use mathlib.Core.Path.{_≡_};
 ghost use Rattle.node.specs.declared.Gain.the-variants as gain;
 ghost use Rattle.mix.specs.Samples.{sample, put};
 ghost use Rattle.mix.specs.Mix.{Pair, scaled, scale};
-ghost use Rattle.mix.specs.Loops.{plusScaled, plusWeighted, mixedAt, Piece, Apart};
+ghost use Rattle.mix.specs.Loops.{plusScaled, plusWeighted, mixedAt, Piece, PartsApart};
 
 // d = s × gain for m samples, from sample k on. Requires at most a piece of a block, with both parts within the area.
 fn scale_piece(area: &mut [f32], from: usize, to: usize, m: usize, k: usize, g: Gain)
@@ -27,7 +27,7 @@ fn scale_piece(area: &mut [f32], from: usize, to: usize, m: usize, k: usize, g: 
 
 // The same, one sample after another in the area itself. Requires as `scale_piece`, and two parts that do not overlap.
 fn scale_last(area: &mut [f32], from: usize, to: usize, m: usize, k: usize, g: Gain)
-    requires { ⌜ Piece from to m k (now area) × Apart from to m ⌝ }
+    requires { ⌜ Piece from to m k (now area) × PartsApart from to m ⌝ }
     ensures { λ _. ⌜ now (area .exit) ≡ mixedAt (λ k x y. scaled g k x) from to m k (now (area .entry)) ⌝ }
 {
     let h = later(g, k as u32);
@@ -68,7 +68,7 @@ fn add_piece(area: &mut [f32], from: usize, to: usize, m: usize, k: usize, a: f3
 
 // The same, one sample after another. Requires as `scale_last`.
 fn add_last(area: &mut [f32], from: usize, to: usize, m: usize, k: usize, a: f32)
-    requires { ⌜ Piece from to m k (now area) × Apart from to m ⌝ }
+    requires { ⌜ Piece from to m k (now area) × PartsApart from to m ⌝ }
     ensures { λ _. ⌜ now (area .exit) ≡ mixedAt (plusScaled (gain.Rest a)) from to m k (now (area .entry)) ⌝ }
 {
     for i in 0..m {

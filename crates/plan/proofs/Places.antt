@@ -15,7 +15,7 @@ use borrow.Author.Tests.{ltb-true, ltb-false, leb-true, leb-false, le-leb, lt-le
 use Rattle.plan.specs.declared.Step.{Step}
 use Rattle.plan.specs.declared.Read.{Read}
 use Rattle.plan.specs.declared.Read.the-variants.{Found, Bad}
-use Rattle.plan.specs.Words.{patchMap, gainMap, matrixMap, clearMap, sendMap, outputMap, fields, field, stepOf, readAt, Row, kinds, mapOf, fieldsIn, stepAmong}
+use Rattle.plan.specs.Words.{patchMap, gainMap, matrixMap, clearMap, sendMap, outputMap, fields, field, stepOf, readAt, StepKind, kinds, mapOf, fieldsIn, stepAmong}
 use Rattle.plan.specs.Records.{word, patchAt, gainAt, matrixAt, clearAt, sendAt, outputAt}
 use Rattle.plan.proofs.Words.{patch-fields, gain-fields, matrix-fields, clear-fields, send-fields, output-fields, read-past, read-cut, read-unnamed, read-patch, read-gain, read-matrix, read-clear, read-send, read-output}
 
@@ -152,7 +152,7 @@ module _ (xs ys : List ℕ) (at : ℕ) where
         let i : ℕ = 1 + ones (fieldsIn map % 2 ^ b) in
         ap (word (xs ++ ys)) (add-assoc k at i) ∙ getD-append-add xs ys (at + i) 0
 
-    among-offset : (ks : List Row) → stepAmong ks (xs ++ ys) (k + at) map ≡ moved k (stepAmong ks ys at map)
+    among-offset : (ks : List StepKind) → stepAmong ks (xs ++ ys) (k + at) map ≡ moved k (stepAmong ks ys at map)
     unfolding stepAmong
     among-offset [] = refl
     among-offset (row ∷ ks) =

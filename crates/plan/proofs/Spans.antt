@@ -1,4 +1,4 @@
--- The buffers that a span names: how many, which entries of the index list, below the buffers where the entries are, from its front alone,
+-- The buffers that a span names: how many, which entries of the index list, below the buffers where the entries are,
 -- and none that another span names where the list ascends. Assumes nothing.
 use mathlib.Core.Path.{_≡_, sym, _∙_}
 use mathlib.Core.Bool.{true, false, _||_}
@@ -10,7 +10,7 @@ use native.Mathlib.Omega.{arith}
 use lib.ListN.{length, getD, take, drop, length-take, length-drop}
 use lib.Seq.{getD-take, getD-drop}
 use borrow.Author.Tests.{leb-true}
-use Rattle.lists.proofs.Stores.{length-part, part-take}
+use Rattle.lists.proofs.Stores.{length-part}
 use Rattle.lists.specs.Entries.{someFrom, meet, Disjoint}
 use Rattle.lists.proofs.Bools.{or-some}
 use Rattle.lists.proofs.Entries.{some-none, some-more, entries-none, meet-none}
@@ -27,9 +27,6 @@ module _ (indices : List ℕ) (s : Span) where
 
   pub named-at : (i : ℕ) → i < s .len → getD (named indices s) i 0 ≡ getD indices (s .start + i) 0
   named-at i h = getD-take (s .len) (drop (s .start) indices) i 0 h ∙ getD-drop (s .start) indices i 0
-
-  pub named-front : (count : ℕ) → Within count s → named (take count indices) s ≡ named indices s
-  named-front count h = part-take (s .start) (s .len) count indices h
 
   pub named-below : (n count : ℕ) → someFrom n (take count indices) ≡ false → Within count s → someFrom n (named indices s) ≡ false
   named-below n count e h = some-none n (named indices s) .1 each

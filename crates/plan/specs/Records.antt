@@ -6,7 +6,7 @@ use mathlib.Core.List.{List, [], _∷_}
 use lib.Dec.{ltb}
 use lib.ListN.{getD}
 use Rattle.plan.specs.declared.Step.{Step}
-use Rattle.plan.specs.Words.{Row, patchKind, gainKind, matrixKind, clearKind, sendKind, outputKind}
+use Rattle.plan.specs.Words.{StepKind, patchKind, gainKind, matrixKind, clearKind, sendKind, outputKind}
 
 abbrev pub word : List ℕ → ℕ → ℕ
 word w at = getD w at 0
@@ -16,7 +16,7 @@ abbrev pub below : ℕ → List ℕ → ℕ
 below b [] = 0
 below b (c ∷ cs) = cond (ltb c b) 1 0 + below b cs
 
-abbrev pub recordAt : Row → List ℕ → ℕ → Step
+abbrev pub recordAt : StepKind → List ℕ → ℕ → Step
 recordAt k w at = k .made (λ b. word w (at + (1 + below b (k .bits))))
 
 abbrev pub patchAt : List ℕ → ℕ → Step

@@ -65,31 +65,31 @@ abbrev pub span : ℕ → ℕ → Span
 span start len = record { start = start; len = len }
 
 -- a row has a kind of step: the bits of its map, and the step, from the field of each bit
-pub record Row : Type 0 where
+pub record StepKind : Type 0 where
   pub bits : List ℕ
   pub made : (ℕ → ℕ) → Step
 
-abbrev pub patchKind : Row
+abbrev pub patchKind : StepKind
 patchKind = record { bits = input ∷ channel ∷ dstBuffer ∷ []; made = λ f. Patch (f input) (f channel) (f dstBuffer) }
 
-abbrev pub gainKind : Row
+abbrev pub gainKind : StepKind
 gainKind =
     record {
       bits = node ∷ srcStart ∷ srcLength ∷ dstStart ∷ dstLength ∷ [];
       made = λ f. Gain (f node) (span (f srcStart) (f srcLength)) (span (f dstStart) (f dstLength));
     }
 
-abbrev pub matrixKind : Row
+abbrev pub matrixKind : StepKind
 matrixKind =
     record {
       bits = node ∷ srcStart ∷ srcLength ∷ dstStart ∷ dstLength ∷ noField ∷ [];
       made = λ f. Matrix (f node) (span (f srcStart) (f srcLength)) (span (f dstStart) (f dstLength));
     }
 
-abbrev pub clearKind : Row
+abbrev pub clearKind : StepKind
 clearKind = record { bits = dstStart ∷ dstLength ∷ []; made = λ f. Clear (span (f dstStart) (f dstLength)) }
 
-abbrev pub sendKind : Row
+abbrev pub sendKind : StepKind
 sendKind =
     record {
       bits = node ∷ srcStart ∷ srcLength ∷ dstStart ∷ dstLength ∷ coefficientStart ∷ coefficientLength ∷ [];
@@ -97,10 +97,10 @@ sendKind =
           Send (f node) (span (f srcStart) (f srcLength)) (span (f dstStart) (f dstLength)) (span (f coefficientStart) (f coefficientLength));
     }
 
-abbrev pub outputKind : Row
+abbrev pub outputKind : StepKind
 outputKind = record { bits = srcStart ∷ srcLength ∷ slot ∷ []; made = λ f. Output (span (f srcStart) (f srcLength)) (f slot) }
 
-abbrev pub kinds : List Row
+abbrev pub kinds : List StepKind
 kinds = patchKind ∷ gainKind ∷ matrixKind ∷ clearKind ∷ sendKind ∷ outputKind ∷ []
 
 -- the map of a kind
@@ -137,7 +137,7 @@ abbrev pub field : List ℕ → ℕ → ℕ → ℕ → ℕ
 field w at map b = getD w (at + (1 + ones (fieldsIn map % 2 ^ b))) 0
 
 -- the step of a map that one of a list of kinds has, and the place after its record
-unfoldable pub stepAmong : List Row → List ℕ → ℕ → ℕ → Read
+unfoldable pub stepAmong : List StepKind → List ℕ → ℕ → ℕ → Read
 stepAmong [] w at map = Bad
 stepAmong (k ∷ ks) w at map = cond (eqb map (mapOf (k .bits))) (Found (k .made (field w at map)) (at + (1 + fields map))) (stepAmong ks w at map)
 

@@ -36,7 +36,7 @@ use Rattle.input.specs.Input.{lookup, directoryBad}
 use Rattle.setting.specs.Setting.{nodeOf, settingAnswer}
 use Rattle.setting.proofs.Setting.{Settable, settable, node-named, floats-accepted, floats-refused, words-accepted, words-refused, node-good}
 use Rattle.run.specs.Run.{RunGiven, State, outputChannels, admission, processed, runSteps}
-use Rattle.run.specs.Calls.{Fixed, Changing, changing, Call, set, run, givenTo, start, answer, after, afterAll, stepsOfPlan}
+use Rattle.run.specs.Calls.{Fixed, Changing, leftBy, Call, set, run, givenTo, start, answer, after, afterAll, stepsOfPlan}
 use Rattle.run.proofs.Answers.{accepted-runs, refused-keeps}
 use Rattle.run.proofs.States.{Good, good-stored, good-run, run-lengths, NodesBelow}
 use Rattle.run.proofs.Admitted.{tested}
@@ -178,19 +178,19 @@ module _ (f : Fixed) where
     abbrev t : State
     t = runSteps (f .plan .block) (lookup directory samples) (stepsOfPlan f) s
 
-    ran-ready : Ready f (changing t)
+    ran-ready : Ready f (leftBy t)
     ran-ready =
         let l = run-lengths (f .plan .block) (lookup directory samples) (stepsOfPlan f) s in
         let inside = accepted-sound (f .plan) (shortAreas (f .plan) (areasOf f h)) (f .indices) (h .words) (f .steps) (r .plan) .inside in
         let good = good-run (f .plan .nodes) (idAt (h .words)) (f .plan .block) (lookup directory samples) (stepsOfPlan f) s
         (record { room = accepted-room (f .plan) (areasOf f h) (r .plan) .words; ids-are = λ i l. refl; none-bad = r .nodes })
         (below (f .plan) (f .indices) (f .coefficients) (stepsOf (f .plan) (f .steps)) inside) in
-        alike-ready h (changing t) r (record { floats = l .floats; words = l .words; buffers = l .buffers; ids = good .ids-are }) (good .none-bad)
+        alike-ready h (leftBy t) r (record { floats = l .floats; words = l .words; buffers = l .buffers; ids = good .ids-are }) (good .none-bad)
 
     run-ready : Ready f (after f h (run directory samples out))
     run-ready = go (admission g s) refl
       where
-        go : (a : Answer) → admission g s ≡ a → Ready f (changing (processed g s))
+        go : (a : Answer) → admission g s ≡ a → Ready f (leftBy (processed g s))
         go Accepted e = rw (accepted-runs g s e) ran-ready
         go (Refused q) e = rw (refused-keeps g s e) r
 

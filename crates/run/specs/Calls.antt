@@ -27,8 +27,8 @@ pub record Changing : Type 0 where
   pub words : List ℕ
   pub buffers : List Float
 
-abbrev pub changing : State → Changing
-changing s = record { floats = s .floats; words = s .words; buffers = s .buffers }
+abbrev pub leftBy : State → Changing
+leftBy s = record { floats = s .floats; words = s .words; buffers = s .buffers }
 
 pub data Call : Type 0 where
   set : (id : ℕ) (values : List Float) (ramp : ℕ) → Call
@@ -53,7 +53,7 @@ module _ (f : Fixed) where
         words = settingWords (f .plan .nodes) id values ramp (h .floats) (h .words);
         buffers = h .buffers;
       }
-  after h (run directory samples out) = changing (processed (givenTo directory samples) (start h out))
+  after h (run directory samples out) = leftBy (processed (givenTo directory samples) (start h out))
 
   abbrev pub afterAll : Changing → List Call → Changing
   afterAll h [] = h

@@ -203,7 +203,7 @@ pub fn patch(buffers: &mut [f32], block: usize, dst: usize, part: &[f32])
     mix_buffers::copy_buffer(buffers, block, dst, part);
 }
 
-// Clear. Requires an index list that was tested, a span within it, and all buffers.
+// Clear. Requires a span that names buffers, and all buffers.
 pub fn run_clear(plan: Plan, indices: &[u32], buffers: &mut [f32], dst: Span)
     requires { ⌜ Names plan (now indices) dst × (plan .buffers * plan .block ≤ length (now buffers)) ⌝ }
     ensures { λ _. ⌜ now (buffers .exit) ≡ cleared (plan .block) (named (now (indices .entry)) dst) (now (buffers .entry)) ⌝ }

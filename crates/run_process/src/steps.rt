@@ -23,7 +23,7 @@ ghost use Rattle.run.specs.Run.{state, stepped, runSteps};
 ghost use Rattle.run.specs.Loops.{Fit, FitStep};
 
 // A step, after `wrote` samples of output; the answer is how many are written then. Requires what the tests said of the plan and of it, and
-// the first entries of the directory. All kinds are in one match: a second one costs some nanoseconds a step.
+// the starts of the directory. All kinds are in one match: a second one costs some nanoseconds a step.
 fn run_step(
     plan: Plan,
     indices: &[u32],
@@ -76,7 +76,7 @@ fn run_step(
 }
 
 // The steps of the step words, in order; the answer is how many samples were written. Requires what the tests said of the plan and its
-// steps, and the first entries of the directory.
+// steps, and the starts of the directory.
 fn run_steps(
     plan: Plan,
     indices: &[u32],

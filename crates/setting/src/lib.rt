@@ -1,4 +1,5 @@
-// A setting of a node. Ports `Plan::set_param` of src/engine/plan.rs. The call is total, and a refused one changes nothing.
+// A setting of a node. Ports `Plan::set_param` of src/engine/plan.rs. `set_param` is total, and a refused one changes nothing; `set_node` is for
+// the crates above, and has a `requires`.
 use node::Node;
 use plan::Plan;
 use refusal::Answer;

@@ -77,7 +77,7 @@ module _ (p : Plan) (n : ℕ) where
 -- ---- a draft in its place
 
 -- A state that holds a draft, with areas that have the words of its nodes, for a block within the limits. That they have the draft's other lists follows.
-pub record Placed (s : BuilderState) (d : Draft) : Type 0 where
+pub record LaidOut (s : BuilderState) (d : Draft) : Type 0 where
   pub holds : Drafted s d
   pub nodes : s .plan .nodes * nodeWords ≤ length (s .words)
   pub block : badBlock (s .plan .block) ≡ false
@@ -86,7 +86,7 @@ pub record Placed (s : BuilderState) (d : Draft) : Type 0 where
 front-room : (n : ℕ) (xs ys : List ℕ) → take n xs ≡ ys → n ≡ length ys → n ≤ length xs
 front-room n xs ys e c = subst (λ (k : ℕ). k ≤ length xs) (sym (length-take n xs) ∙ ap length e ∙ sym c) (min-le-right n (length xs))
 
-long-enough : (s : BuilderState) (d : Draft) → Placed s d → shortLists (s .plan) (s .indices) (s .words) (s .steps) ≡ false
+long-enough : (s : BuilderState) (d : Draft) → LaidOut s d → shortLists (s .plan) (s .indices) (s .words) (s .steps) ≡ false
 long-enough s d t =
     let h = t .holds in
     lists-none (s .plan) (s .indices) (s .words) (s .steps) .1
@@ -140,7 +140,7 @@ pub record SameAnswers (s₁ s₂ : BuilderState) : Type 0 where
   pub same-list : (slot : ℕ) (area : List ℕ)
       → sourcesArea (s₂ .plan) slot (s₂ .indices) (s₂ .words) (s₂ .steps) area ≡ sourcesArea (s₁ .plan) slot (s₁ .indices) (s₁ .words) (s₁ .steps) area
 
-module _ (s₁ s₂ : BuilderState) (d : Draft) (t₁ : Placed s₁ d) (t₂ : Placed s₂ d) where
+module _ (s₁ s₂ : BuilderState) (d : Draft) (t₁ : LaidOut s₁ d) (t₂ : LaidOut s₂ d) where
   abbrev h₁ : Drafted s₁ d
   h₁ = t₁ .holds
 

@@ -25,7 +25,7 @@ use Rattle.builder.proofs.Fits.{node-fits}
 use Rattle.builder.proofs.ReadBack.{read-back}
 use Rattle.theorem.specs.Builds.{Build, begun, grown, acceptedCalls, NoRampBuilt}
 use Rattle.theorem.proofs.Nodes.{AtRest}
-use Rattle.theorem.proofs.Answers.{Placed, SameAnswers, same-answers}
+use Rattle.theorem.proofs.Answers.{LaidOut, SameAnswers, same-answers}
 
 -- ---- what each accepted call keeps, a list of calls keeps
 module _ (l : Limits) (P : BuilderState → Type 0) (keeps : (s : BuilderState) (c : BuilderCall) → answer l s c ≡ Accepted → P s → P (after l s c)) where
@@ -58,7 +58,7 @@ draft b = drafted noDraft (acceptedCalls b)
 pub holds : (b : Build) → Drafted (grown b) (draft b)
 holds b = read-back unitLimits (b .block) (begun b) refl (b .calls)
 
-placed : (b : Build) → newAnswer (b .block) ≡ Accepted → Placed (grown b) (draft b)
+placed : (b : Build) → newAnswer (b .block) ≡ Accepted → LaidOut (grown b) (draft b)
 unfolding newAnswer
 placed b e =
     record {
@@ -95,4 +95,4 @@ module _ (b₁ b₂ : Build) (e : acceptedCalls b₁ ≡ acceptedCalls b₂) whe
   pub builds-answer : newAnswer (b₁ .block) ≡ Accepted → newAnswer (b₂ .block) ≡ Accepted → SameAnswers (grown b₁) (grown b₂)
   builds-answer new₁ new₂ =
       same-answers (grown b₁) (grown b₂) (draft b₁) (placed b₁ new₁)
-      (subst (λ (cs : List BuilderCall). Placed (grown b₂) (drafted noDraft cs)) (sym e) (placed b₂ new₂))
+      (subst (λ (cs : List BuilderCall). LaidOut (grown b₂) (drafted noDraft cs)) (sym e) (placed b₂ new₂))

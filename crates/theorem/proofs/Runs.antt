@@ -33,7 +33,7 @@ use Rattle.plan.proofs.Exact.{accepted-sound}
 use Rattle.plan.proofs.Spans.{names-length, names-below}
 use Rattle.input.specs.Input.{lookup}
 use Rattle.run.specs.Run.{RunGiven, State, runSteps, outputChannels, processed}
-use Rattle.run.specs.Calls.{Fixed, Changing, changing, Call, set, run, givenTo, start, answer, after, stepsOfPlan}
+use Rattle.run.specs.Calls.{Fixed, Changing, leftBy, Call, set, run, givenTo, start, answer, after, stepsOfPlan}
 use Rattle.run.proofs.Answers.{accepted-runs}
 use Rattle.run.proofs.Admitted.{areas-of, admitted, output-needs}
 use Rattle.run.proofs.States.{run-lengths}
@@ -74,7 +74,7 @@ pub data Went (f : Fixed) : Changing → List Entry → Type 0 where
 
 refused-call : (f : Fixed) (h : Changing) (c : Call) (r : Refusal) → answer f h c ≡ Refused r → after f h c ≡ h
 refused-call f h (set id values ramp) r e = refused-set f h id values ramp r e
-refused-call f h (run directory samples out) r e = ap changing (refused-run f h directory samples out r e)
+refused-call f h (run directory samples out) r e = ap leftBy (refused-run f h directory samples out r e)
 
 pub went : (f : Fixed) (cs : List Call) (h : Changing) → Went f h (journal f h cs)
 went f [] h = none

@@ -41,7 +41,7 @@ fn span_in(set: Set, indices: &[u32], span: Span) -> bool
     all_in(set, plan_steps::numbers(indices, span))
 }
 
-// The set with the buffers of a span. Requires an index list that was tested, and a span within it.
+// The set with the buffers of a span. Requires a span that names buffers.
 fn with_span(plan: Plan, set: Set, indices: &[u32], span: Span) -> Set
     requires { ⌜ Names plan (now indices) span ⌝ }
     ensures { λ r. ⌜ ((b : ℕ) → member r b ≡ (has (named (now (indices .entry)) span) b || member set b)) ⌝ }
@@ -77,7 +77,7 @@ fn clean_step(plan: Plan, set: Set, indices: &[u32], step: Step) -> bool
     }
 }
 
-// The buffers that are written once the step has gone by. Requires as `clean_step`.
+// The buffers that are written once the step has gone by. Requires as `clean_step`, and at most 256 buffers.
 fn written(plan: Plan, set: Set, indices: &[u32], step: Step) -> Set
     requires { ⌜ Placed plan (now indices) step × (plan .buffers ≤ unitLimits .buffers) ⌝ }
     ensures { λ r. ⌜ ((b : ℕ) → member r b ≡ writtenAfter (member set) (resolved plan (now (indices .entry)) [] step) b) ⌝ }

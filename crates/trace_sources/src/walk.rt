@@ -43,7 +43,7 @@ fn with_slot(count: usize, step: Step) -> usize
     named + 1
 }
 
-// The inputs behind the buffers of a span. Requires an index list that was tested, a span within it, and the words of all buffers.
+// The inputs behind the buffers of a span. Requires a span that names buffers, and the words of all buffers.
 fn behind_span(plan: Plan, indices: &[u32], area: &[u64], src: Span) -> Set
     requires { ⌜ Names plan (now indices) src × (length (now area) ≡ areaWords) ⌝ }
     ensures { λ r. ⌜ ((i : ℕ) → member r i ≡ union (sourcesOf (now (area .entry))) (named (now (indices .entry)) src) i) ⌝ }
@@ -68,7 +68,7 @@ fn replace(plan: Plan, indices: &[u32], area: &mut [u64], src: Span, dst: Span)
     give(area, plan_steps::numbers(indices, dst), set);
 }
 
-// Clear. Requires an index list that was tested, a span within it, and the words of all buffers.
+// Clear. Requires a span that names buffers, and the words of all buffers.
 fn clear(plan: Plan, indices: &[u32], area: &mut [u64], dst: Span)
     requires { ⌜ Names plan (now indices) dst × (length (now area) ≡ areaWords) ⌝ }
     ensures { λ _. ⌜ sourcesOf (now (area .exit)) ≡ changed (λ i own. false) (sourcesOf (now (area .entry))) (named (now (indices .entry)) dst) ⌝ }

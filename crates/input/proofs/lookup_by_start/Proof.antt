@@ -5,14 +5,14 @@ use borrow.Author.Needs.{needs}
 use Rattle.input.proofs.lookup_by_start.Statement.{statement}
 use Rattle.input.proofs.lookup_by_start.Tie as tie
 
-mul-first : tie.Need-mul-first
-mul-first c = search needs
+mul-start : tie.Need-mul-start
+mul-start c = search needs
 
-shared-slice-read-first : tie.Need-shared-slice-read-first
-shared-slice-read-first c = search needs
+shared-slice-read-start : tie.Need-shared-slice-read-start
+shared-slice-read-start c = search needs
 
-cast-first : tie.Need-cast-first
-cast-first c = omega (arith, c .shared-slice-known4 .given (c .before .before .before .before .args .input))
+cast-start : tie.Need-cast-start
+cast-start c = omega (arith, c .shared-slice-known4 .given (c .before .before .before .before .args .input))
 
 lookup-from-requires : tie.Need-lookup-from-requires
 lookup-from-requires c κs =
@@ -23,4 +23,4 @@ returns : tie.Need-returns
 returns c = search needs
 
 pub lookup-by-start-spec : {M : Type 1} → statement M
-lookup-by-start-spec = tie.close (tie.spec mul-first shared-slice-read-first cast-first lookup-from-requires returns)
+lookup-by-start-spec = tie.close (tie.spec mul-start shared-slice-read-start cast-start lookup-from-requires returns)

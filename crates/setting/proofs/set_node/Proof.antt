@@ -1,10 +1,9 @@
 -- `setting::set_node` meets its contract. Assumes nothing.
 use mathlib.Core.Path.{_∙_}
 use Prim.Native.Nat.{_+_}
-use lib.ListN.{length}
 use borrow.Author.Needs.{needs}
 use Rattle.node.specs.Areas.{Room}
-use Rattle.setting.proofs.Setting.{Settable, settable, node-room, node-good, floats-stored, words-stored}
+use Rattle.setting.proofs.Setting.{settable, node-room, node-good, floats-stored, words-stored}
 use Rattle.setting.proofs.set_node.Statement.{statement}
 use Rattle.setting.proofs.set_node.Tie as tie
 
