@@ -1,9 +1,9 @@
 -- A plan grows by the sum of the growths of its accepted calls; and a list of calls is accepted whole exactly where that sum meets neither 5 nor 2, its ids are
--- new and different, and each call is good in itself. Assumes nothing.
+-- new and different, and each call is good in itself, where all are tested by the same limits. Assumes nothing.
 use mathlib.Core.Path.{_≡_, refl, sym, ap, _∙_, subst}
 use mathlib.Core.Logic.{_↔_}
 use mathlib.Core.Bool.{false, _||_}
-use mathlib.Core.List.{List, [], _∷_, _++_}
+use mathlib.Core.List.{List, [], _∷_, _++_, map}
 use Prim.Native.Nat.{ℕ, _≤_}
 use native.Mathlib.Omega.{arith}
 use lib.ListN.{length}
@@ -20,7 +20,7 @@ use Rattle.plan.specs.Check.{idAmong}
 use Rattle.builder.specs.declared.Growth.{Growth}
 use Rattle.builder.specs.Growth.{grown, limitTests, growsPast, buffersGrowth, coefficientsGrowth, nodeGrowth, stepGrowth}
 use Rattle.builder.specs.Calls.{lentIndices, buffersAnswer, lentCoefficients, coefficientsAnswer, lentNodes, nodeOwn, nodeAnswer, recordLength, lentSteps, stepOwn, stepAnswer}
-use Rattle.builder.specs.Built.{BuilderCall, buffers, coefficients, node, step, BuilderState, answer, after, built, accepted}
+use Rattle.builder.specs.Built.{BuilderCall, buffers, coefficients, node, step, Asked, asked, BuilderState, answer, after, built, accepted}
 use Rattle.builder.specs.Sums.{sum, noGrowth, growthOf, growthOfAll, idOf, idsOf, idsTaken, lengths, Fit, Good, AllGood}
 use Rattle.builder.proofs.Fits.{node-fits}
 use Rattle.builder.proofs.Limits.{growth-exactly}
@@ -125,7 +125,31 @@ module _ (l : Limits) (s : BuilderState) where
             },
       )
 
--- ---- a list of calls
+-- ---- a list of calls, each by its own limits
+
+-- after any calls, refused ones among them, the plan has grown by what the accepted ones add, and by no more
+pub really-grown : (cs : List Asked) (s : BuilderState) → built s cs .plan ≡ grown (s .plan) (growthOfAll (accepted s cs))
+really-grown [] s = refl
+really-grown (x ∷ cs) s = go (answer l s c) refl (really-grown cs t)
+  where
+    l : Limits
+    l = x .limits
+
+    c : BuilderCall
+    c = x .call
+
+    t : BuilderState
+    t = after l s c
+
+    more : Growth
+    more = growthOfAll (accepted t cs)
+
+    go : (a : Answer) → answer l s c ≡ a → built t cs .plan ≡ grown (t .plan) more
+        → built t cs .plan ≡ grown (s .plan) (growthOfAll (outcome a (c ∷ accepted t cs) (λ _. accepted t cs)))
+    go Accepted e ih = ih ∙ ap (λ (p : Plan). grown p more) (plan-after l s c e) ∙ grown-sum (s .plan) (growthOf c) more
+    go (Refused r) e ih = ih ∙ ap (λ (u : BuilderState). grown (u .plan) more) (refused-nothing l s c r e)
+
+-- ---- a list of calls by the same limits
 
 tail-same : {A : Type 0} (x : A) (xs ys : List A) → x ∷ xs ≡ x ∷ ys → xs ≡ ys
 tail-same x xs ys e = cc
@@ -138,27 +162,14 @@ own-new words n (node id xs ramp) ids e = join {a = idAmong words n id} (or-none
 own-new words n (step w) ids e = refl
 
 module _ (l : Limits) where
-  -- after any calls, refused ones among them, the plan has grown by what the accepted ones add, and by no more
-  pub really-grown : (cs : List BuilderCall) (s : BuilderState) → built l s cs .plan ≡ grown (s .plan) (growthOfAll (accepted l s cs))
-  really-grown [] s = refl
-  really-grown (c ∷ cs) s = go (answer l s c) refl (really-grown cs t)
-    where
-      t : BuilderState
-      t = after l s c
+  abbrev acceptedBy : BuilderState → List BuilderCall → List BuilderCall
+  acceptedBy s cs = accepted s (map (asked l) cs)
 
-      more : Growth
-      more = growthOfAll (accepted l t cs)
-
-      go : (a : Answer) → answer l s c ≡ a → built l t cs .plan ≡ grown (t .plan) more
-          → built l t cs .plan ≡ grown (s .plan) (growthOfAll (outcome a (c ∷ accepted l t cs) (λ _. accepted l t cs)))
-      go Accepted e ih = ih ∙ ap (λ (p : Plan). grown p more) (plan-after l s c e) ∙ grown-sum (s .plan) (growthOf c) more
-      go (Refused r) e ih = ih ∙ ap (λ (u : BuilderState). grown (u .plan) more) (refused-nothing l s c r e)
-
-  taken : (s : BuilderState) (c : BuilderCall) (cs : List BuilderCall) → answer l s c ≡ Accepted → accepted l s (c ∷ cs) ≡ c ∷ accepted l (after l s c) cs
-  taken s c cs e = outcome-accepted (answer l s c) (c ∷ accepted l (after l s c) cs) (λ _. accepted l (after l s c) cs) e
+  taken : (s : BuilderState) (c : BuilderCall) (cs : List BuilderCall) → answer l s c ≡ Accepted → acceptedBy s (c ∷ cs) ≡ c ∷ acceptedBy (after l s c) cs
+  taken s c cs e = outcome-accepted (answer l s c) (c ∷ acceptedBy (after l s c) cs) (λ _. acceptedBy (after l s c) cs) e
 
   -- all accepted: where the calls fit as one, and each is good in itself
-  pub all-accepted : (cs : List BuilderCall) (s : BuilderState) → Fit l s (growthOfAll cs) (idsOf cs) → AllGood cs → accepted l s cs ≡ cs
+  pub all-accepted : (cs : List BuilderCall) (s : BuilderState) → Fit l s (growthOfAll cs) (idsOf cs) → AllGood cs → accepted s (map (asked l) cs) ≡ cs
   all-accepted [] s f g = refl
   all-accepted (c ∷ cs) s f g =
       let own : Fit l s (growthOf c) (idOf c) = record {
@@ -170,16 +181,16 @@ module _ (l : Limits) where
       taken s c cs e ∙ ap (λ (ds : List BuilderCall). c ∷ ds) (all-accepted cs (after l s c) (fit-after l s c (growthOfAll cs) (idsOf cs) e .0 f) (g .1))
 
   -- … and only there
-  fewer : (cs : List BuilderCall) (s : BuilderState) → length (accepted l s cs) ≤ length cs
+  fewer : (cs : List BuilderCall) (s : BuilderState) → length (acceptedBy s cs) ≤ length cs
   fewer [] s = omega arith
   fewer (c ∷ cs) s = go (answer l s c) (fewer cs (after l s c))
     where
-      go : (a : Answer) → length (accepted l (after l s c) cs) ≤ length cs
-          → length (outcome a (c ∷ accepted l (after l s c) cs) (λ _. accepted l (after l s c) cs)) ≤ length (c ∷ cs)
+      go : (a : Answer) → length (acceptedBy (after l s c) cs) ≤ length cs
+          → length (outcome a (c ∷ acceptedBy (after l s c) cs) (λ _. acceptedBy (after l s c) cs)) ≤ length (c ∷ cs)
       go Accepted h = omega arith
       go (Refused r) h = omega arith
 
-  pub accepted-fit : (cs : List BuilderCall) (s : BuilderState) → accepted l s cs ≡ cs → Fit l s (growthOfAll cs) (idsOf cs) × AllGood cs
+  pub accepted-fit : (cs : List BuilderCall) (s : BuilderState) → accepted s (map (asked l) cs) ≡ cs → Fit l s (growthOfAll cs) (idsOf cs) × AllGood cs
   accepted-fit [] s q = (record { limits = limits-none; areas = refl; new = refl }, tt)
     where
       limits-none : NoneHolds (limitTests l (s .plan) noGrowth)
@@ -189,12 +200,12 @@ module _ (l : Limits) where
       t : BuilderState
       t = after l s c
 
-      go : (a : Answer) → answer l s c ≡ a → (accepted l t cs ≡ cs → Fit l t (growthOfAll cs) (idsOf cs) × AllGood cs)
+      go : (a : Answer) → answer l s c ≡ a → (acceptedBy t cs ≡ cs → Fit l t (growthOfAll cs) (idsOf cs) × AllGood cs)
           → Fit l s (growthOfAll (c ∷ cs)) (idsOf (c ∷ cs)) × AllGood (c ∷ cs)
       go Accepted e ih =
-          let rest = ih (tail-same c (accepted l t cs) cs (sym (taken s c cs e) ∙ q)) in
+          let rest = ih (tail-same c (acceptedBy t cs) cs (sym (taken s c cs e) ∙ q)) in
           (fit-after l s c (growthOfAll cs) (idsOf cs) e .1 (rest .0), (call-exactly l s c .0 e .1, rest .1))
       go (Refused r) e ih =
-          let k : accepted l t cs ≡ c ∷ cs = sym (outcome-refused (answer l s c) (c ∷ accepted l t cs) (λ _. accepted l t cs) r e) ∙ q in
-          let h : length (accepted l t cs) ≡ length (c ∷ cs) = ap length k in
+          let k : acceptedBy t cs ≡ c ∷ cs = sym (outcome-refused (answer l s c) (c ∷ acceptedBy t cs) (λ _. acceptedBy t cs) r e) ∙ q in
+          let h : length (acceptedBy t cs) ≡ length (c ∷ cs) = ap length k in
           absurd (omega (arith, fewer cs t, h))

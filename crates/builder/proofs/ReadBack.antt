@@ -30,7 +30,7 @@ use Rattle.plan.proofs.Words.{patch-fields, gain-fields, matrix-fields, clear-f
 use Rattle.plan.proofs.Places.{Is, Kind, patch, gain, matrix, clear, send, output, read-kind, read-agree, read-append, read-seam}
 use Rattle.builder.specs.Growth.{buffersGrowth, coefficientsGrowth, nodeGrowth, stepGrowth}
 use Rattle.builder.specs.Calls.{emptyPlan, numbersFrom, recordLength, unreadable}
-use Rattle.builder.specs.Built.{BuilderCall, buffers, coefficients, node, step, BuilderState, answer, after, built, accepted, Draft, noDraft, stepRead, given, drafted, Reads, none, then, Drafted}
+use Rattle.builder.specs.Built.{BuilderCall, buffers, coefficients, node, step, Asked, BuilderState, answer, after, built, accepted, Draft, noDraft, stepRead, given, drafted, Reads, none, then, Drafted}
 use Rattle.builder.proofs.Numbers.{length-numbers}
 use Rattle.builder.proofs.Fits.{buffers-fit, coefficients-fit, node-fits, step-fits}
 use Rattle.builder.proofs.Outcomes.{plan-accepted, buffers-accepted, coefficients-accepted, floats-accepted, words-accepted, step-accepted}
@@ -198,15 +198,21 @@ call-held l s d (coefficients xs) h e = coefficients-held l s d h xs e
 call-held l s d (node id xs ramp) h e = node-held l s d h id xs ramp e
 call-held l s d (step w) h e = step-held l s d h w e
 
-pub built-held : (l : Limits) (cs : List BuilderCall) (s : BuilderState) (d : Draft) → Drafted s d → Drafted (built l s cs) (drafted d (accepted l s cs))
-built-held l [] s d h = h
-built-held l (c ∷ cs) s d h = go (answer l s c) refl (built-held l cs (after l s c) (given d c)) (built-held l cs (after l s c) d)
+pub built-held : (cs : List Asked) (s : BuilderState) (d : Draft) → Drafted s d → Drafted (built s cs) (drafted d (accepted s cs))
+built-held [] s d h = h
+built-held (x ∷ cs) s d h = go (answer l s c) refl (built-held cs t (given d c)) (built-held cs t d)
   where
+    l : Limits
+    l = x .limits
+
+    c : BuilderCall
+    c = x .call
+
     t : BuilderState
     t = after l s c
 
-    go : (a : Answer) → answer l s c ≡ a → (Drafted t (given d c) → Drafted (built l t cs) (drafted (given d c) (accepted l t cs)))
-        → (Drafted t d → Drafted (built l t cs) (drafted d (accepted l t cs))) → Drafted (built l t cs) (drafted d (outcome a (c ∷ accepted l t cs) (λ _. accepted l t cs)))
+    go : (a : Answer) → answer l s c ≡ a → (Drafted t (given d c) → Drafted (built t cs) (drafted (given d c) (accepted t cs)))
+        → (Drafted t d → Drafted (built t cs) (drafted d (accepted t cs))) → Drafted (built t cs) (drafted d (outcome a (c ∷ accepted t cs) (λ _. accepted t cs)))
     go Accepted e taken left = taken (call-held l s d c h e)
     go (Refused r) e taken left = left (subst (λ (u : BuilderState). Drafted u d) (sym (refused-nothing l s c r e)) h)
 
@@ -228,10 +234,10 @@ empty-held s block e =
       steps = none;
     }
 
--- The theorem: after `new` and any list of calls, refused ones among them, in areas of any content and length, the plan holds the draft of
--- the accepted calls.
-pub read-back : (l : Limits) (block : ℕ) (s : BuilderState) → s .plan ≡ emptyPlan block → (cs : List BuilderCall) → Drafted (built l s cs) (drafted noDraft (accepted l s cs))
-read-back l block s e cs = built-held l cs s noDraft (empty-held s block e)
+-- The theorem: after `new` and any list of calls, each by its own limits and refused ones among them, in areas of any content and length, the plan
+-- holds the draft of the accepted calls.
+pub read-back : (block : ℕ) (s : BuilderState) → s .plan ≡ emptyPlan block → (cs : List Asked) → Drafted (built s cs) (drafted noDraft (accepted s cs))
+read-back block s e cs = built-held cs s noDraft (empty-held s block e)
 
 -- so the step words, as a run decodes them, are the steps that were given
 pub held-decoded : (s : BuilderState) (d : Draft) → Drafted s d → decoded (take (s .plan .words) (s .steps)) (s .plan .steps) ≡ d .steps

@@ -26,6 +26,14 @@ pub data BuilderCall : Type 0 where
   node : (id : ℕ) (values : List Float) (ramp : ℕ) → BuilderCall
   step : List ℕ → BuilderCall
 
+-- a call, and the limits that it is tested by
+pub record Asked : Type 0 where
+  pub call : BuilderCall
+  pub limits : Limits
+
+abbrev pub asked : Limits → BuilderCall → Asked
+asked l c = record { call = c; limits = l }
+
 -- the plan, and the areas that these calls are lent
 pub record BuilderState : Type 0 where
   pub plan : Plan
@@ -81,14 +89,16 @@ module _ (l : Limits) where
         steps = stepArea l (s .plan) w (s .steps);
       }
 
-  -- what a list of calls leaves, and those of them that are accepted
-  abbrev pub built : BuilderState → List BuilderCall → BuilderState
-  built s [] = s
-  built s (c ∷ cs) = built (after s c) cs
+-- what a list of calls leaves, and those of them that are accepted, without their limits
+abbrev pub built : BuilderState → List Asked → BuilderState
+built s [] = s
+built s (c ∷ cs) = built (after (c .limits) s (c .call)) cs
 
-  abbrev pub accepted : BuilderState → List BuilderCall → List BuilderCall
-  accepted s [] = []
-  accepted s (c ∷ cs) = outcome (answer s c) (c ∷ accepted (after s c) cs) (λ _. accepted (after s c) cs)
+abbrev pub accepted : BuilderState → List Asked → List BuilderCall
+accepted s [] = []
+accepted s (c ∷ cs) =
+    let rest = accepted (after (c .limits) s (c .call)) cs in
+    outcome (answer (c .limits) s (c .call)) (c .call ∷ rest) (λ _. rest)
 
 -- ---- what a call leaves alone
 

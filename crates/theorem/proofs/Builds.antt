@@ -14,10 +14,9 @@ use Rattle.node.specs.Nodes.{newNode}
 use Rattle.node.specs.Areas.{nodes}
 use Rattle.node.proofs.Left.{left-new}
 use Rattle.plan.specs.declared.Limits.{Limits}
-use Rattle.plan.specs.Limits.{unitLimits}
 use Rattle.builder.specs.Growth.{buffersGrowth, coefficientsGrowth, nodeGrowth, stepGrowth}
 use Rattle.builder.specs.Calls.{newAnswer, newTests, recordLength}
-use Rattle.builder.specs.Built.{BuilderCall, buffers, coefficients, node, step, BuilderState, answer, after, built, Draft, noDraft, given, drafted, Drafted}
+use Rattle.builder.specs.Built.{BuilderCall, buffers, coefficients, node, step, Asked, BuilderState, answer, after, built, Draft, noDraft, given, drafted, Drafted}
 use Rattle.builder.proofs.Refusals.{refused-nothing}
 use Rattle.builder.proofs.Kept.{accepted-kept}
 use Rattle.builder.proofs.Outcomes.{plan-accepted}
@@ -28,17 +27,20 @@ use Rattle.theorem.proofs.Nodes.{AtRest}
 use Rattle.theorem.proofs.Answers.{LaidOut, SameAnswers, same-answers}
 
 -- ---- what each accepted call keeps, a list of calls keeps
-module _ (l : Limits) (P : BuilderState → Type 0) (keeps : (s : BuilderState) (c : BuilderCall) → answer l s c ≡ Accepted → P s → P (after l s c)) where
-  all-keep : (cs : List BuilderCall) (s : BuilderState) → P s → P (built l s cs)
-  all-keep [] s p = p
-  all-keep (c ∷ cs) s p = all-keep cs (after l s c) (go (answer l s c) refl)
+module _ (P : BuilderState → Type 0) (keeps : (l : Limits) (s : BuilderState) (c : BuilderCall) → answer l s c ≡ Accepted → P s → P (after l s c)) where
+  one-keeps : (l : Limits) (s : BuilderState) (c : BuilderCall) → P s → P (after l s c)
+  one-keeps l s c p = go (answer l s c) refl
     where
       go : (a : Answer) → answer l s c ≡ a → P (after l s c)
-      go Accepted e = keeps s c e p
+      go Accepted e = keeps l s c e p
       go (Refused r) e = subst P (sym (refused-nothing l s c r e)) p
 
+  all-keep : (cs : List Asked) (s : BuilderState) → P s → P (built s cs)
+  all-keep [] s p = p
+  all-keep (c ∷ cs) s p = all-keep cs (after (c .limits) s (c .call)) (one-keeps (c .limits) s (c .call) p)
+
 pub block-kept : (b : Build) → grown b .plan .block ≡ b .block
-block-kept b = all-keep unitLimits (λ (s : BuilderState). s .plan .block ≡ b .block) (λ s c e p. accepted-kept unitLimits s c e .block ∙ p) (b .calls) (begun b) refl
+block-kept b = all-keep (λ (s : BuilderState). s .plan .block ≡ b .block) (λ l s c e p. accepted-kept l s c e .block ∙ p) (b .calls) (begun b) refl
 
 abbrev NodeRoom : BuilderState → Type 0
 NodeRoom s = s .plan .nodes * nodeWords ≤ length (s .words)
@@ -56,14 +58,14 @@ abbrev pub draft : Build → Draft
 draft b = drafted noDraft (acceptedCalls b)
 
 pub holds : (b : Build) → Drafted (grown b) (draft b)
-holds b = read-back unitLimits (b .block) (begun b) refl (b .calls)
+holds b = read-back (b .block) (begun b) refl (b .calls)
 
 placed : (b : Build) → newAnswer (b .block) ≡ Accepted → LaidOut (grown b) (draft b)
 unfolding newAnswer
 placed b e =
     record {
       holds = holds b;
-      nodes = all-keep unitLimits NodeRoom (room-kept unitLimits) (b .calls) (begun b) (omega arith);
+      nodes = all-keep NodeRoom room-kept (b .calls) (begun b) (omega arith);
       block = rw (block-kept b) (accepted-none (newTests (b .block)) Accepted e .0 .0);
     }
 

@@ -1,4 +1,4 @@
--- A build: `new`, a list of builder calls, and `finish`, in lent areas of any content and length. Definitions only.
+-- A build: `new`, a list of builder calls, each with its limits, and `finish`, in lent areas of any content and length. Definitions only.
 use Prim.Native.Nat.{ℕ}
 use mathlib.Core.Path.{_≡_}
 use mathlib.Core.List.{List, [], _∷_}
@@ -7,13 +7,13 @@ use Rattle.refusal.specs.declared.Answer.the-variants.{Accepted}
 use Rattle.plan.specs.Limits.{unitLimits}
 use Rattle.plan.specs.Areas.{Areas}
 use Rattle.builder.specs.Calls.{newAnswer, emptyPlan, finishAnswer, finishArea}
-use Rattle.builder.specs.Built.{BuilderCall, buffers, coefficients, node, step, BuilderState, built, accepted}
+use Rattle.builder.specs.Built.{BuilderCall, buffers, coefficients, node, step, Asked, BuilderState, built, accepted}
 use Rattle.run.specs.Calls.{Fixed, Changing}
 
 pub record Build : Type 0 where
   pub block : ℕ
   pub lent : Areas
-  pub calls : List BuilderCall
+  pub calls : List Asked
 
 -- the plan and the areas after `new`, and after the calls, of which a refused one changes nothing
 abbrev pub begun : Build → BuilderState
@@ -28,11 +28,11 @@ begun b =
     }
 
 abbrev pub grown : Build → BuilderState
-grown b = built unitLimits (begun b) (b .calls)
+grown b = built (begun b) (b .calls)
 
--- the calls that were accepted, in order
+-- the calls that were accepted, in order, without the limits that they were tested by
 abbrev pub acceptedCalls : Build → List BuilderCall
-acceptedCalls b = accepted unitLimits (begun b) (b .calls)
+acceptedCalls b = accepted (begun b) (b .calls)
 
 -- `new` and `finish` are accepted
 pub record Finished (b : Build) : Type 0 where
