@@ -5,29 +5,6 @@ use crate::ops::{Input, Setting};
 use crate::paper;
 use crate::plan::{Areas, Layout, Step, FLOATS, VALUES, WORDS};
 use crate::rust;
-use crate::tape::Kind::{self, *};
-
-/// The numbers that each call can refuse with.
-pub const REFUSALS: &[(Kind, &[u32])] = &[
-    (New, &[1]),
-    (Buffers, &[5, 2]),
-    (Buffer, &[2]),
-    (Coefficients, &[5, 2]),
-    (Node, &[5, 2, 7, 8, 10]),
-    (Kind::Step, &[5, 2, 3, 7]),
-    (Finish, &[1, 5, 2]),
-    (CheckPlan, &[1, 5, 2, 4, 8, 3, 7, 6]),
-    (SetParam, &[5, 2, 14, 8, 10, 9]),
-    (Process, &[1, 5, 2, 4, 8, 3, 7, 6, 14, 12, 13]),
-    (OutputSources, &[1, 5, 2, 4, 8, 3, 7, 6, 15]),
-    (AllSources, &[1, 5, 2, 4, 8, 3, 7, 6]),
-    (CleanAnswer, &[1, 5, 2, 4, 8, 3, 7, 6]),
-    (Adopt, &[5, 2, 11, 14, 10]),
-    (BalanceGains, &[17]),
-    (BalanceOf, &[16, 17, 2]),
-    (StereoMatrix, &[17]),
-    (WidthMatrix, &[16, 17, 2]),
-];
 
 /// These take much room, and are reached once.
 const LONG_BLOCK: &str = "a block of 1,024 samples";
@@ -41,7 +18,8 @@ const ONE_AT_REST: &str = "Send at rest, one weight, which is not 0, a block of 
 const ONE_RAMPING: &str = "Send ramping, one weight, which is not 0, a block of more than 16 samples that is no multiple of 16";
 const TWO_AT_REST: &str = "Send at rest, two weights that are not 0, a block of more than 16 samples that is no multiple of 16";
 const TWO_RAMPING: &str = "Send ramping, two weights that are not 0, a block of more than 16 samples that is no multiple of 16";
-const FOUR_AT_REST: &str = "Send at rest, four weights that are not 0 to two buffers, a block of more than 16 samples that is no multiple of 16";
+const FOUR_AT_REST: &str =
+    "Send at rest, four weights that are not 0 to two buffers, a block of more than 16 samples that is no multiple of 16";
 const FOUR_TO_ONE: &str = "Send at rest, four weights that are not 0 to one buffer twice";
 
 /// Refused with 12 for their form alone.

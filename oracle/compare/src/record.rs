@@ -1,6 +1,6 @@
 //! `oracle record FILE`: a sample of the reference's answers as a file, small enough to be kept with the port, whose program `replay` runs it.
 //! A case is taken where it reaches something that was not reached often enough yet, so that few cases reach everything on the lists of `branches.rs`.
-use crate::branches::{often, BRANCHES, LIMITS, REFUSALS};
+use crate::branches::{often, BRANCHES, LIMITS};
 use crate::layouts::Gen;
 use crate::plan::Layout;
 use crate::recorded::{Case, Held};
@@ -144,7 +144,7 @@ impl Recorder {
     /// What was not reached.
     fn missing(&self) -> Vec<String> {
         let branches = BRANCHES.iter().chain(LIMITS).filter(|name| !self.reached.contains_key(*name)).map(|name| name.to_string());
-        let all = REFUSALS.iter().flat_map(|(kind, numbers)| numbers.iter().map(move |n| (*kind, *n)));
+        let all = recorded_refusals::REFUSALS.iter().flat_map(|(kind, numbers)| numbers.iter().map(move |n| (*kind, *n)));
         let refusals = all.filter(|r| !self.refused.contains_key(r)).map(|(kind, n)| format!("{kind:?} refused {n}"));
         branches.chain(refusals).collect()
     }

@@ -11,6 +11,28 @@ use crate::refused::{off, off32, spoil, spoil_directory, spoil_node};
 use crate::rng::Rng;
 use crate::tape::{bits, plan, size, Kind};
 
+/// The numbers that each call can refuse with.
+pub const REFUSALS: &[(Kind, &[u32])] = &[
+    (Kind::New, &[1]),
+    (Kind::Buffers, &[5, 2]),
+    (Kind::Buffer, &[2]),
+    (Kind::Coefficients, &[5, 2]),
+    (Kind::Node, &[5, 2, 7, 8, 10]),
+    (Kind::Step, &[5, 2, 3, 7]),
+    (Kind::Finish, &[1, 5, 2]),
+    (Kind::CheckPlan, &[1, 5, 2, 4, 8, 3, 7, 6]),
+    (Kind::SetParam, &[5, 2, 14, 8, 10, 9]),
+    (Kind::Process, &[1, 5, 2, 4, 8, 3, 7, 6, 14, 12, 13]),
+    (Kind::OutputSources, &[1, 5, 2, 4, 8, 3, 7, 6, 15]),
+    (Kind::AllSources, &[1, 5, 2, 4, 8, 3, 7, 6]),
+    (Kind::CleanAnswer, &[1, 5, 2, 4, 8, 3, 7, 6]),
+    (Kind::Adopt, &[5, 2, 11, 14, 10]),
+    (Kind::BalanceGains, &[17]),
+    (Kind::BalanceOf, &[16, 17, 2]),
+    (Kind::StereoMatrix, &[17]),
+    (Kind::WidthMatrix, &[16, 17, 2]),
+];
+
 /// Calls of every kind, those that are refused.
 pub fn some(c: &mut Case, g: &mut Gen, h: &Held) {
     run(c, g, h);
