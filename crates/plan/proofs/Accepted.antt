@@ -1,10 +1,10 @@
--- What a run, a trace and an adoption go by: of a plan that was accepted its room, its limits and its index list, and of each of its steps
+-- What a run, a trace and an adoption go by: of a plan that was accepted its room and its limits, and of each of its steps
 -- that it is inside its tables, narrow and apart, with the buffers that its spans name. Assumes nothing.
 use mathlib.Core.Path.{_≡_, sym, _∙_, subst}
 use mathlib.Core.Bool.{Bool}
-use mathlib.Core.List.{List, [], _∷_}
+use mathlib.Core.List.{List}
 use Prim.Native.Nat.{ℕ, suc, _≤_}
-use lib.ListN.{length}
+use lib.ListN.{length, take}
 use Rattle.lists.proofs.Entries.{entries-none}
 use Rattle.refusal.specs.declared.Answer.the-variants.{Accepted}
 use Rattle.plan.specs.declared.Plan.{Plan}
@@ -12,13 +12,12 @@ use Rattle.plan.specs.declared.Step.{Step}
 use Rattle.plan.specs.declared.Read.the-variants.{Found}
 use Rattle.plan.specs.Limits.{unitLimits}
 use Rattle.plan.specs.Areas.{Areas, shortAreas, shortLists}
-use Rattle.plan.specs.Words.{readAt}
+use Rattle.plan.specs.Words.{readAt, decoded}
 use Rattle.plan.specs.Check.{checked, checkPlan}
-use Rattle.plan.specs.Sound.{Inside, Narrow, Apart, IndexList, Pass, Passes, Placed, Each}
+use Rattle.plan.specs.Sound.{Narrow, Apart, Placed, Each, stepsOf, Pass, Passes}
 use Rattle.plan.proofs.Plans.{WithinLimits, Room, ListRoom, areas-none, lists-none}
-use Rattle.plan.proofs.Spans.{names}
-use Rattle.plan.proofs.Steps.{outside-none, wide-none, shares-none, inside-by}
-use Rattle.plan.proofs.Exact.{accepted-sound}
+use Rattle.plan.proofs.Passes.{all-passes, passes-placed}
+use Rattle.plan.proofs.Exact.{accepted-all, accepted-sound}
 
 -- ---- the plan
 module _ (p : Plan) (short : Bool) (indices words steps : List ℕ) (e : checked p short indices words steps ≡ Accepted) where
@@ -33,10 +32,17 @@ module _ (p : Plan) (short : Bool) (indices words steps : List ℕ) (e : checked
         steps = s .step-count;
       }
 
-  pub accepted-list : p .indices ≤ length indices → IndexList p indices
-  accepted-list h =
+  pub accepted-passes : p .indices ≤ length indices → Passes p indices (take (p .words) steps) (p .steps) 0
+  unfolding decoded
+  accepted-passes h =
       let s = accepted-sound p short indices words steps e in
-      record { room = h; few = s .buffer-count; entries = entries-none (p .buffers) (p .indices) indices .1 (s .entries) }
+      all-passes p indices (take (p .words) steps)
+      (record { room = h; few = s .buffer-count; entries = entries-none (p .buffers) (p .indices) indices .1 (s .entries) })
+      (p .steps) 0 (accepted-all p short indices words steps e)
+
+  pub accepted-placed : p .indices ≤ length indices → Each (Placed p indices) (stepsOf p steps)
+  unfolding decoded
+  accepted-placed h = passes-placed p indices (take (p .words) steps) (p .steps) 0 (accepted-passes h)
 
 -- the room of all six areas, where the call tested them, and of three
 pub accepted-room : (p : Plan) (a : Areas) → checkPlan p a ≡ Accepted → Room p a
@@ -47,14 +53,6 @@ pub accepted-lists : (p : Plan) (indices words steps : List ℕ) → checked p (
 accepted-lists p indices words steps e =
     lists-none p indices words steps .0 (accepted-sound p (shortLists p indices words steps) indices words steps e .areas)
 
--- ---- steps inside the tables of an index list that was tested
-pub placed : (p : Plan) (indices : List ℕ) → IndexList p indices → (x : Step) → Inside p x → Placed p indices x
-placed p indices l x h = inside-by (names p indices l) (λ s w. w) p x h
-
-pub all-placed : (p : Plan) (indices : List ℕ) → IndexList p indices → (xs : List Step) → Each (Inside p) xs → Each (Placed p indices) xs
-all-placed p indices l [] h = tt
-all-placed p indices l (x ∷ xs) h = (placed p indices l x (h .0), all-placed p indices l xs (h .1))
-
 -- ---- a step that was read, where `left` of them pass, and `more` after it
 module _ (p : Plan) (indices w : List ℕ) (at : ℕ) {left more : ℕ} (e : left ≡ suc more) (f : Passes p indices w left at) where
   pass : Pass p indices w at (λ next. Passes p indices w more next)
@@ -64,23 +62,17 @@ module _ (p : Plan) (indices w : List ℕ) (at : ℕ) {left more : ℕ} (e : lef
     same : Found s next ≡ Found (pass .step) (pass .next)
     same = sym r ∙ pass .read
 
-    pub pass-inside : Inside p s
-    pass-inside =
-        let q : s ≡ pass .step = cc same in
-        rw q (outside-none p (pass .step) .0 (pass .inside))
+    the-step : s ≡ pass .step
+    the-step = cc same
 
-    pub pass-placed : IndexList p indices → Placed p indices s
-    pass-placed l = placed p indices l s pass-inside
+    pub pass-placed : Placed p indices s
+    pass-placed = rw the-step (pass .placed)
 
     pub pass-narrow : Narrow s
-    pass-narrow =
-        let q : s ≡ pass .step = cc same in
-        rw q (wide-none (pass .step) .0 (pass .narrow))
+    pass-narrow = rw the-step (pass .narrow)
 
     pub pass-apart : Apart indices s
-    pass-apart =
-        let q : s ≡ pass .step = cc same in
-        rw q (shares-none indices (pass .step) .0 (pass .apart))
+    pass-apart = rw the-step (pass .apart)
 
     pub pass-rest : Passes p indices w more next
     pass-rest =

@@ -13,11 +13,11 @@ use Rattle.plan.specs.declared.Plan.{Plan}
 use Rattle.plan.specs.PlanRecord.{planWith}
 use Rattle.plan.specs.Words.{decoded, decodedFrom}
 use Rattle.plan.specs.Check.{planTests, checked}
-use Rattle.plan.specs.Sound.{stepsOf, Passes}
+use Rattle.plan.specs.Sound.{stepsOf}
 use Rattle.plan.proofs.Parts.{steps-append}
-use Rattle.plan.proofs.Passes.{passes-none, passes-all}
-use Rattle.plan.proofs.Exact.{accepted-passes}
-use Rattle.plan.proofs.Grown.{Grew, passes-grown}
+use Rattle.plan.proofs.Passes.{All}
+use Rattle.plan.proofs.Exact.{accepted-all}
+use Rattle.plan.proofs.Grown.{Grew, grown-none}
 
 -- a plan that counts m words more
 abbrev pub longer : ℕ → Plan → Plan
@@ -31,21 +31,22 @@ module _ (m : ℕ) (p : Plan) (short : Bool) (indices words steps : List ℕ) (e
   abbrev w : List ℕ
   w = take (p .words) steps
 
-  passed : Passes p indices w (p .steps) 0
-  passed = accepted-passes p short indices words steps e
+  all : All p indices (p .steps) (decodedFrom w (p .steps) 0)
+  unfolding decoded
+  all = accepted-all p short indices words steps e
 
   same-steps : decodedFrom (take (p .words + m) steps) (p .steps) 0 ≡ decodedFrom w (p .steps) 0
   same-steps =
       ap (λ (l : List ℕ). decodedFrom l (p .steps) 0) (take-add (p .words) m steps)
-      ∙ steps-append w (take m (drop (p .words) steps)) (p .steps) 0 (passes-all p indices w (p .steps) 0 passed .readable) .0
+      ∙ steps-append w (take m (drop (p .words) steps)) (p .steps) 0 (all .readable) .0
 
   pub more-words-accepted : checked (longer m p) short indices words steps ≡ Accepted
   unfolding checked
   more-words-accepted =
       let t = accepted-none (planTests p short indices words steps) Accepted e .0 in
-      let f = passes-grown (grew-longer m p) indices indices refl w (take (p .words + m) steps) (p .steps) 0 same-steps passed in
+      let s = grown-none (grew-longer m p) indices indices refl w (take (p .words + m) steps) (p .steps) 0 1 same-steps all in
       none-accepted (planTests (longer m p) short indices words steps)
-      (t .0, (t .1 .0, (t .1 .1 .0, (t .1 .1 .1 .0, (t .1 .1 .1 .1 .0, passes-none (longer m p) indices (take (p .words + m) steps) (p .steps) 0 1 f)))))
+      (t .0, (t .1 .0, (t .1 .1 .0, (t .1 .1 .1 .0, (t .1 .1 .1 .1 .0, s)))))
 
   pub more-words-steps : stepsOf (longer m p) steps ≡ stepsOf p steps
   unfolding decoded

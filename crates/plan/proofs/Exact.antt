@@ -14,26 +14,26 @@ use Rattle.plan.specs.declared.Plan.{Plan}
 use Rattle.plan.specs.Limits.{unitLimits}
 use Rattle.plan.specs.Words.{decoded}
 use Rattle.plan.specs.Check.{planTests, checked}
-use Rattle.plan.specs.Sound.{stepsOf, Sound, Passes}
+use Rattle.plan.specs.Sound.{stepsOf, Sound}
 use Rattle.plan.proofs.Plans.{WithinLimits, block-none, limits-none, ids-none}
-use Rattle.plan.proofs.Passes.{All, none-passes, passes-none, passes-all, all-passes}
+use Rattle.plan.proofs.Passes.{All, none-all, all-none}
 
 module _ (p : Plan) (short : Bool) (indices words steps : List ℕ) where
   abbrev w : List ℕ
   w = take (p .words) steps
 
-  -- each step of an accepted plan passes
-  pub accepted-passes : checked p short indices words steps ≡ Accepted → Passes p indices w (p .steps) 0
-  unfolding checked
-  accepted-passes e = none-passes p indices w (p .steps) 0 1 (accepted-none (planTests p short indices words steps) Accepted e .0 .1 .1 .1 .1 .1)
+  -- the steps of an accepted plan
+  pub accepted-all : checked p short indices words steps ≡ Accepted → All p indices (p .steps) (stepsOf p steps)
+  unfolding checked decoded
+  accepted-all e = none-all p indices w (p .steps) 0 1 (accepted-none (planTests p short indices words steps) Accepted e .0 .1 .1 .1 .1 .1)
 
   pub accepted-sound : checked p short indices words steps ≡ Accepted → Sound p short indices words steps
-  unfolding checked decoded
+  unfolding checked
   accepted-sound e =
       let h = accepted-none (planTests p short indices words steps) Accepted e .0 in
       let block = block-none (p .block) .0 (h .0) in
       let limits = limits-none unitLimits p .0 (h .1 .0) in
-      let all = passes-all p indices w (p .steps) 0 (accepted-passes e) in
+      let all = accepted-all e in
       record {
         block-least = block .0;
         block-most = block .1;
@@ -62,7 +62,7 @@ module _ (p : Plan) (short : Bool) (indices words steps : List ℕ) where
         steps = s .step-count;
       } in
       let all : All p indices (p .steps) (stepsOf p steps) = record { readable = s .readable; inside = s .inside; narrow = s .narrow; apart = s .apart } in
-      let tests = passes-none p indices w (p .steps) 0 1 (all-passes p indices w (p .steps) 0 all) in
+      let tests = all-none p indices w (p .steps) 0 1 all in
       let entries = entries-none (p .buffers) (p .indices) indices .1 (s .entries) in
       let ids = ids-none words (p .nodes) .1 (s .ids) in
       none-accepted (planTests p short indices words steps)

@@ -8,7 +8,7 @@ use native.Mathlib.Omega.{arith}
 use lib.ListN.{length, take}
 use lib.Ieee.{Float}
 use Rattle.lists.proofs.Stores.{part-same}
-use Rattle.refusal.specs.Tests.{Test, first}
+use Rattle.refusal.specs.Tests.{Test, first, NoneHolds}
 use Rattle.refusal.specs.declared.Answer.the-variants.{Accepted}
 use Rattle.refusal.proofs.Laws.{first-append, none-rest}
 use Rattle.plan.specs.declared.Plan.{Plan}
@@ -16,11 +16,11 @@ use Rattle.plan.specs.declared.Step.{Step}
 use Rattle.plan.specs.declared.Step.the-variants.{Patch, Gain, Matrix, Clear, Send, Output}
 use Rattle.plan.specs.Words.{decodedFrom}
 use Rattle.plan.specs.Check.{outside, shares, stepsTests}
-use Rattle.plan.specs.Sound.{Inside, Apart, Each, Passes}
+use Rattle.plan.specs.Sound.{Inside, Apart, Each}
 use Rattle.plan.specs.Resolved.{Resolved, resolved}
 use Rattle.plan.proofs.Steps.{outside-none, shares-none}
 use Rattle.plan.proofs.Parts.{endFrom, decoded-parts-from, tests-parts}
-use Rattle.plan.proofs.Passes.{All, passes-none, passes-all, all-passes}
+use Rattle.plan.proofs.Passes.{All, all-none}
 use Rattle.plan.proofs.Front.{named-same, shares-same}
 
 -- no count of a table has fallen
@@ -79,21 +79,18 @@ module _ {p q : Plan} (g : Grew p q) (old new : List ℕ) (e : take (p .indices)
           ((outside-none q x .0 (s .0), b .0), (shares-none new x .0 (s .1 ∙ shares-none old x .1 (a .0)), b .1))
 
   -- in any words that have the same steps
-  pub passes-grown : (v w : List ℕ) (n at : ℕ) → decodedFrom w n at ≡ decodedFrom v n at → Passes p old v n at → Passes q new w n at
-  passes-grown v w n at d f =
-      all-passes q new w n at (subst (All q new n) (sym d) (all-grown n (decodedFrom v n at) (passes-all p old v n at f)))
+  pub grown-none : (v w : List ℕ) (n at place : ℕ) → decodedFrom w n at ≡ decodedFrom v n at → All p old n (decodedFrom v n at)
+      → NoneHolds (stepsTests q new w n at place)
+  grown-none v w n at place d a = all-none q new w n at place (subst (All q new n) (sym d) (all-grown n (decodedFrom v n at) a))
 
   -- ---- steps that were added behind the old ones, whose words end with the last of them
-  module _ (xs ys : List ℕ) (n m at : ℕ) (f : Passes p old xs n at) (end : endFrom xs n at ≡ length xs) where
-    all : All p old n (decodedFrom xs n at)
-    all = passes-all p old xs n at f
-
+  module _ (xs ys : List ℕ) (n m at : ℕ) (all : All p old n (decodedFrom xs n at)) (end : endFrom xs n at ≡ length xs) where
     pub new-decide : (place : ℕ) → first (stepsTests q new (xs ++ ys) (n + m) at place) Accepted ≡ first (stepsTests q new ys m 0 (place + n)) Accepted
     new-decide place =
         ap (λ (ts : List Test). first ts Accepted) (tests-parts xs ys n m at (all .readable) end q new place)
         ∙ first-append (stepsTests q new xs n at place) (stepsTests q new ys m 0 (place + n)) Accepted
         ∙ none-rest (stepsTests q new xs n at place) (first (stepsTests q new ys m 0 (place + n)) Accepted)
-        (passes-none q new xs n at place (passes-grown xs xs n at refl f))
+        (grown-none xs xs n at place refl all)
 
     pub resolved-parts : (us vs : List Float) → take (p .coefficients) us ≡ take (p .coefficients) vs
         → map (resolved q new us) (decodedFrom (xs ++ ys) (n + m) at)

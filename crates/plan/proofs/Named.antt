@@ -7,10 +7,11 @@ use native.Mathlib.Omega.{arith}
 use lib.Ieee.{Float}
 use Rattle.lists.specs.Entries.{AllBelow}
 use Rattle.plan.specs.declared.Plan.{Plan}
+use Rattle.plan.specs.declared.Span.{Span}
 use Rattle.plan.specs.declared.Step.{Step}
 use Rattle.plan.specs.declared.Step.the-variants.{Patch, Gain, Matrix, Clear, Send, Output}
 use Rattle.plan.specs.Limits.{inputs, slots}
-use Rattle.plan.specs.Sound.{Inside, Placed}
+use Rattle.plan.specs.Sound.{InsideBy, Inside, Placed}
 use Rattle.plan.specs.Loops.{slotOf, channels}
 use Rattle.plan.specs.Resolved.{resolved, inputNamed, nodeNamed, channelsOut, slotNamed}
 use Rattle.plan.proofs.Spans.{length-named}
@@ -24,13 +25,14 @@ module _ (p : Plan) (indices : List ℕ) (coefficients : List Float) where
   input-inside (Send n s d c) h = tt
   input-inside (Output s o) h = tt
 
-  pub node-inside : (x : Step) → Inside p x → AllBelow (p .nodes) (nodeNamed (resolved p indices coefficients x))
-  node-inside (Patch i c d) h = tt
-  node-inside (Gain n s d) h = (h .0, tt)
-  node-inside (Matrix n s d) h = (h .0, tt)
-  node-inside (Clear d) h = tt
-  node-inside (Send n s d c) h = (h .0, tt)
-  node-inside (Output s o) h = tt
+  -- whatever is asked of its spans
+  pub node-inside : (Index Weights : Span → Type 0) (x : Step) → InsideBy Index Weights p x → AllBelow (p .nodes) (nodeNamed (resolved p indices coefficients x))
+  node-inside Index Weights (Patch i c d) h = tt
+  node-inside Index Weights (Gain n s d) h = (h .0, tt)
+  node-inside Index Weights (Matrix n s d) h = (h .0, tt)
+  node-inside Index Weights (Clear d) h = tt
+  node-inside Index Weights (Send n s d c) h = (h .0, tt)
+  node-inside Index Weights (Output s o) h = tt
 
   pub slot-inside : (x : Step) → Inside p x → slotNamed (resolved p indices coefficients x) ≤ slots
   slot-inside (Patch i c d) h = omega arith

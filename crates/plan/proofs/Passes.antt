@@ -1,5 +1,5 @@
--- The steps of a plan one by one and as a list: no test of them holds exactly where each passes, and then each can be read, is inside its
--- tables, narrow, and apart. Assumes nothing.
+-- The steps of a plan: no test of them holds exactly where each can be read, is inside its tables, narrow, and apart; and then, where the index list was
+-- tested, a walk of them finds each so. Assumes nothing.
 use mathlib.Core.Path.{_≡_, refl, sym, ap, subst}
 use mathlib.Core.Bool.{true≢false}
 use mathlib.Core.List.{List}
@@ -12,9 +12,10 @@ use Rattle.plan.specs.declared.Read.{Read}
 use Rattle.plan.specs.declared.Read.the-variants.{Found, Bad}
 use Rattle.plan.specs.Words.{readAt, decodedFrom}
 use Rattle.plan.specs.Check.{stepTests, stepsTests}
-use Rattle.plan.specs.Sound.{Inside, Narrow, Apart, Each, Passes}
+use Rattle.plan.specs.Sound.{Inside, Narrow, Apart, Placed, IndexList, Each, Passes}
 use Rattle.plan.proofs.Words.{decoded-on, readable-turn}
-use Rattle.plan.proofs.Steps.{outside-none, wide-none, shares-none}
+use Rattle.plan.proofs.Spans.{names}
+use Rattle.plan.proofs.Steps.{outside-none, wide-none, shares-none, inside-by}
 
 -- a list of n steps that are sound
 pub record All (p : Plan) (indices : List ℕ) (n : ℕ) (ss : List Step) : Type 0 where
@@ -24,53 +25,88 @@ pub record All (p : Plan) (indices : List ℕ) (n : ℕ) (ss : List Step) : Type
   pub apart : Each (Apart indices) ss
 
 module _ (p : Plan) (indices w : List ℕ) where
-  -- ---- no test holds
-  pub none-passes : (n at place : ℕ) → NoneHolds (stepsTests p indices w n at place) → Passes p indices w n at
-  unfolding stepsTests
-  none-passes zero at place h = tt
-  none-passes (suc n) at place h = go (readAt w at) refl h (λ next. none-passes n next (place + 1))
-    where
-      rest : ℕ → List Test
-      rest next = stepsTests p indices w n next (place + 1)
+  -- the first of them, and the others
+  record Turn (n at : ℕ) : Type 0 where
+    step : Step
+    next : ℕ
+    read : readAt w at ≡ Found step next
+    inside : Inside p step
+    narrow : Narrow step
+    apart : Apart indices step
+    rest : All p indices n (decodedFrom w n next)
 
-      go : (r : Read) → readAt w at ≡ r → NoneHolds (stepTests p indices place r rest) → ((next : ℕ) → NoneHolds (rest next) → Passes p indices w n next)
-          → Passes p indices w (suc n) at
-      go (Found s next) e h ih =
-          record { step = s; next = next; read = e; inside = h .1 .0; narrow = h .1 .1 .0; apart = h .1 .1 .1 .0; rest = ih next (h .1 .1 .1 .1) }
-      go Bad e h ih = absurd (true≢false (h .0))
-
-  pub passes-none : (n at place : ℕ) → Passes p indices w n at → NoneHolds (stepsTests p indices w n at place)
-  unfolding stepsTests
-  passes-none zero at place f = tt
-  passes-none (suc n) at place f =
-      subst (λ (r : Read). NoneHolds (stepTests p indices place r (λ next. stepsTests p indices w n next (place + 1)))) (sym (f .read))
-      (refl, (f .inside, (f .narrow, (f .apart, passes-none n (f .next) (place + 1) (f .rest)))))
-
-  -- ---- the list of steps
-  pub passes-all : (n at : ℕ) → Passes p indices w n at → All p indices n (decodedFrom w n at)
-  unfolding decodedFrom
-  passes-all zero at f = record { readable = refl; inside = tt; narrow = tt; apart = tt }
-  passes-all (suc n) at f =
-      let a = passes-all n (f .next) (f .rest) in
-      subst (All p indices (suc n)) (sym (decoded-on w at {left = suc n} {more = n} refl (f .read)))
-      (record {
-        readable = ap suc (a .readable);
-        inside = (outside-none p (f .step) .0 (f .inside), a .inside);
-        narrow = (wide-none (f .step) .0 (f .narrow), a .narrow);
-        apart = (shares-none indices (f .step) .0 (f .apart), a .apart);
-      })
-
-  pub all-passes : (n at : ℕ) → All p indices n (decodedFrom w n at) → Passes p indices w n at
-  all-passes zero at a = tt
-  all-passes (suc n) at a =
+  turn : (n at : ℕ) → All p indices (suc n) (decodedFrom w (suc n) at) → Turn n at
+  turn n at a =
       let t = readable-turn w n at (a .readable) in
       let b = subst (All p indices (suc n)) (decoded-on w at {left = suc n} {more = n} refl (t .read)) a in
       record {
         step = t .step;
         next = t .next;
         read = t .read;
-        inside = outside-none p (t .step) .1 (b .inside .0);
-        narrow = wide-none (t .step) .1 (b .narrow .0);
-        apart = shares-none indices (t .step) .1 (b .apart .0);
-        rest = all-passes n (t .next) (record { readable = t .rest; inside = b .inside .1; narrow = b .narrow .1; apart = b .apart .1 });
+        inside = b .inside .0;
+        narrow = b .narrow .0;
+        apart = b .apart .0;
+        rest = record { readable = t .rest; inside = b .inside .1; narrow = b .narrow .1; apart = b .apart .1 };
       }
+
+  -- ---- no test holds
+  pub none-all : (n at place : ℕ) → NoneHolds (stepsTests p indices w n at place) → All p indices n (decodedFrom w n at)
+  unfolding stepsTests decodedFrom
+  none-all zero at place h = record { readable = refl; inside = tt; narrow = tt; apart = tt }
+  none-all (suc n) at place h = go (readAt w at) refl h (λ next. none-all n next (place + 1))
+    where
+      rest : ℕ → List Test
+      rest next = stepsTests p indices w n next (place + 1)
+
+      go : (r : Read) → readAt w at ≡ r → NoneHolds (stepTests p indices place r rest) → ((next : ℕ) → NoneHolds (rest next) → All p indices n (decodedFrom w n next))
+          → All p indices (suc n) (decodedFrom w (suc n) at)
+      go (Found s next) e h ih =
+          let a = ih next (h .1 .1 .1 .1) in
+          subst (All p indices (suc n)) (sym (decoded-on w at {left = suc n} {more = n} refl e))
+          (record {
+            readable = ap suc (a .readable);
+            inside = (outside-none p s .0 (h .1 .0), a .inside);
+            narrow = (wide-none s .0 (h .1 .1 .0), a .narrow);
+            apart = (shares-none indices s .0 (h .1 .1 .1 .0), a .apart);
+          })
+      go Bad e h ih = absurd (true≢false (h .0))
+
+  pub all-none : (n at place : ℕ) → All p indices n (decodedFrom w n at) → NoneHolds (stepsTests p indices w n at place)
+  unfolding stepsTests
+  all-none zero at place a = tt
+  all-none (suc n) at place a =
+      let t = turn n at a in
+      subst (λ (r : Read). NoneHolds (stepTests p indices place r (λ next. stepsTests p indices w n next (place + 1)))) (sym (t .read)) (
+        refl,
+        (
+          outside-none p (t .step) .1 (t .inside),
+          (
+            wide-none (t .step) .1 (t .narrow),
+            (
+              shares-none indices (t .step) .1 (t .apart),
+              all-none n (t .next) (place + 1) (t .rest),
+            ),
+          ),
+        ),
+      )
+
+  -- ---- as a walk goes
+  pub all-passes : IndexList p indices → (n at : ℕ) → All p indices n (decodedFrom w n at) → Passes p indices w n at
+  all-passes l zero at a = tt
+  all-passes l (suc n) at a =
+      let t = turn n at a in
+      record {
+        step = t .step;
+        next = t .next;
+        read = t .read;
+        placed = inside-by (names p indices l) (λ s h. h) p (t .step) (t .inside);
+        narrow = t .narrow;
+        apart = t .apart;
+        rest = all-passes l n (t .next) (t .rest);
+      }
+
+  pub passes-placed : (n at : ℕ) → Passes p indices w n at → Each (Placed p indices) (decodedFrom w n at)
+  unfolding decodedFrom
+  passes-placed zero at f = tt
+  passes-placed (suc n) at f =
+      subst (Each (Placed p indices)) (sym (decoded-on w at {left = suc n} {more = n} refl (f .read))) (f .placed, passes-placed n (f .next) (f .rest))

@@ -39,9 +39,9 @@ module _ (indices : List ℕ) (s : Span) where
 -- a span of an index list that was tested
 pub names : (p : Plan) (indices : List ℕ) → IndexList p indices → (s : Span) → Within (p .indices) s → Names p indices s
 names p indices l s h =
-    record { within = omega (arith, h, l .room); few = l .few; numbers = named-below indices s (p .buffers) (p .indices) (l .entries) h }
+    record { within = omega (arith, h, l .room); numbers = named-below indices s (p .buffers) (p .indices) (l .entries) h }
 
--- what it names: as many buffers as it is long, each below the plan's, and so of those that a plan can have
+-- what it names: as many buffers as it is long, each below the plan's, and so of those that a plan can have, where it has no more
 module _ (p : Plan) (indices : List ℕ) (s : Span) (n : Names p indices s) where
   pub names-length : length (named indices s) ≡ s .len
   names-length = length-named indices s (n .within)
@@ -49,8 +49,8 @@ module _ (p : Plan) (indices : List ℕ) (s : Span) (n : Names p indices s) wher
   pub names-below : (i : ℕ) → i < s .len → getD (named indices s) i 0 < p .buffers
   names-below i k = some-none (p .buffers) (named indices s) .0 (n .numbers) i (omega (arith, names-length))
 
-  pub names-low : someFrom (unitLimits .buffers) (named indices s) ≡ false
-  names-low = some-more (p .buffers) (unitLimits .buffers) (named indices s) (n .few) (n .numbers)
+  pub names-low : p .buffers ≤ unitLimits .buffers → someFrom (unitLimits .buffers) (named indices s) ≡ false
+  names-low few = some-more (p .buffers) (unitLimits .buffers) (named indices s) few (n .numbers)
 
   -- and so do its first
   pub names-first : (k : ℕ) → k ≤ s .len → Names p indices (firstOf k s)
@@ -58,7 +58,6 @@ module _ (p : Plan) (indices : List ℕ) (s : Span) (n : Names p indices s) wher
       let w : Within (length indices) (firstOf k s) = omega (arith, n .within, h) in
       record {
         within = w;
-        few = n .few;
         numbers = some-none (p .buffers) (named indices (firstOf k s)) .1
             (λ i l. let t : i < k = rw (length-named indices (firstOf k s) w) at l in
             rw (named-at indices (firstOf k s) i t) (rw (named-at indices s i (omega arith)) at (names-below i (omega arith))));

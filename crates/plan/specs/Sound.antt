@@ -15,7 +15,7 @@ use Rattle.plan.specs.declared.Step.the-variants.{Patch, Gain, Matrix, C
 use Rattle.plan.specs.declared.Read.the-variants.{Found}
 use Rattle.plan.specs.Limits.{maxBlock, inputs, slots, unitLimits}
 use Rattle.plan.specs.Words.{readAt, decoded}
-use Rattle.plan.specs.Check.{named, outside, used, firstOf, tooWide, shares}
+use Rattle.plan.specs.Check.{named, used, firstOf}
 
 -- ---- a step
 
@@ -56,17 +56,16 @@ Apart indices (Output s o) = Unit {0}
 
 -- ---- what a run and a trace take for granted of the index list
 
--- a span that is within the list, and names buffers, of which there are at most 256
+-- a span that is within the list, and names buffers
 pub record Names (p : Plan) (indices : List ℕ) (s : Span) : Type 0 where
   pub within : Within (length indices) s
-  pub few : p .buffers ≤ unitLimits .buffers
   pub numbers : someFrom (p .buffers) (named indices s) ≡ false
 
 -- a step inside its tables, whose spans of the index list name buffers
 abbrev pub Placed : Plan → List ℕ → Step → Type 0
 Placed p indices = InsideBy (Names p indices) (Within (p .coefficients)) p
 
--- the index list as it was tested before a step is: it has its entries, and each is the number of one of at most 256 buffers
+-- and what the check knows of the whole list before it tests a step: it has its entries, and each is the number of one of at most 256 buffers
 pub record IndexList (p : Plan) (indices : List ℕ) : Type 0 where
   pub room : p .indices ≤ length indices
   pub few : p .buffers ≤ unitLimits .buffers
@@ -107,16 +106,16 @@ pub record Sound (p : Plan) (short : Bool) (indices words steps : List ℕ) : Ty
   -- 6: no step shares a buffer between src and dst
   pub apart : Each (Apart indices) (stepsOf p steps)
 
--- ---- the steps one by one, as a loop over them goes
+-- ---- the steps of an accepted plan one by one, as a walk of them goes
 
--- the step that stands at a place of the words, of which no test holds; `Rest` is said of the place after it
+-- the step that stands at a place of the words; `Rest` is said of the place after it
 pub record Pass (p : Plan) (indices w : List ℕ) (at : ℕ) (Rest : ℕ → Type 0) : Type 0 where
   pub step : Step
   pub next : ℕ
   pub read : readAt w at ≡ Found step next
-  pub inside : outside p step ≡ false
-  pub narrow : tooWide step ≡ false
-  pub apart : shares indices step ≡ false
+  pub placed : Placed p indices step
+  pub narrow : Narrow step
+  pub apart : Apart indices step
   pub rest : Rest next
 
 -- each of n steps from a place of the words on
@@ -126,6 +125,6 @@ Passes p indices w (suc n) at = Pass p indices w at (λ next. Passes p indices w
 
 -- what the tests said of an accepted plan and its steps, as a walk of them asks for it
 pub record Tested (p : Plan) (indices w : List ℕ) : Type 0 where
-  pub list : IndexList p indices
+  pub buffers : p .buffers ≤ unitLimits .buffers
   pub steps : p .steps ≤ unitLimits .steps
   pub pass : Passes p indices w (p .steps) 0

@@ -16,15 +16,13 @@ use Rattle.node.specs.Areas.{someBad}
 use Rattle.plan.specs.declared.Plan.{Plan}
 use Rattle.plan.specs.declared.Step.{Step}
 use Rattle.plan.specs.Limits.{maxBlock, unitLimits}
-use Rattle.plan.specs.Words.{decoded}
 use Rattle.plan.specs.Areas.{Areas, areas, shortAreas}
 use Rattle.plan.specs.Check.{idTwice, planTests, checked, checkPlan}
 use Rattle.plan.specs.Resolved.{resolved}
-use Rattle.plan.specs.Sound.{stepsOf, IndexList, Passes, Each, Placed}
+use Rattle.plan.specs.Sound.{stepsOf, Passes, Each, Placed}
 use Rattle.plan.proofs.Plans.{block-none, WithinLimits, limits-none, Room, areas-none}
-use Rattle.plan.proofs.Passes.{none-passes, passes-all}
 use Rattle.plan.proofs.Named.{channels-named}
-use Rattle.plan.proofs.Accepted.{all-placed}
+use Rattle.plan.proofs.Accepted.{accepted-passes, accepted-placed}
 use Rattle.plan.specs.Loops.{channelsOf}
 use Rattle.input.specs.Input.{directoryBad}
 use Rattle.run.specs.Run.{RunGiven, State, outputChannels, stepsOfRun, admission}
@@ -35,9 +33,9 @@ pub record Checked (p : Plan) (a : Areas) : Type 0 where
   pub block : p .block ≤ maxBlock
   pub limits : WithinLimits unitLimits p
   pub room : Room p a
-  pub list : IndexList p (a .indices)
   pub ids : idTwice (a .nodeWords) (p .nodes) ≡ false
   pub steps : Passes p (a .indices) (take (p .words) (a .stepWords)) (p .steps) 0
+  pub placed : Each (Placed p (a .indices)) (stepsOf p (a .stepWords))
 
 pub tested : (p : Plan) (a : Areas) → checkPlan p a ≡ Accepted → Checked p a
 unfolding checked
@@ -49,9 +47,9 @@ tested p a e =
       block = block-none (p .block) .0 (t .0) .1;
       limits = l;
       room = r;
-      list = record { room = r .indices; few = l .buffers; entries = t .1 .1 .1 .0 };
       ids = t .1 .1 .1 .1 .0;
-      steps = none-passes p (a .indices) (take (p .words) (a .stepWords)) (p .steps) 0 1 (t .1 .1 .1 .1 .1);
+      steps = accepted-passes p (shortAreas p a) (a .indices) (a .nodeWords) (a .stepWords) e (r .indices);
+      placed = accepted-placed p (shortAreas p a) (a .indices) (a .nodeWords) (a .stepWords) e (r .indices);
     }
 
 -- ---- the channels of the steps, by their spans and by the buffers that those name
@@ -88,12 +86,7 @@ module _ (g : RunGiven) (s : State) where
 
     -- what the output needs, as it is worked out
     pub output-needs : outputChannels (stepsOfRun g) ≡ channelsOf (stepsOf (g .plan) (g .steps))
-    unfolding decoded
-    output-needs =
-        let t = tested (g .plan) areas-of e in
-        let ss = stepsOf (g .plan) (g .steps) in
-        channels-same (g .plan) (g .indices) (g .coefficients) ss
-        (all-placed (g .plan) (g .indices) (t .list) ss (passes-all (g .plan) (g .indices) (take (g .plan .words) (g .steps)) (g .plan .steps) 0 (t .steps) .inside))
+    output-needs = channels-same (g .plan) (g .indices) (g .coefficients) (stepsOf (g .plan) (g .steps)) (tested (g .plan) areas-of e .placed)
 
     pub by-14 : someBad (s .words) (g .plan .nodes) ≡ true → admission g s ≡ Refused (refusal badNode 0)
     by-14 b = past-plan ∙ rw b
@@ -115,6 +108,7 @@ pub record Admitted (g : RunGiven) (s : State) : Type 0 where
   pub fit : Fit (g .plan) (g .indices) (g .coefficients) s
   pub step-words : g .plan .words ≤ length (g .steps)
   pub steps : Passes (g .plan) (g .indices) (take (g .plan .words) (g .steps)) (g .plan .steps) 0
+  pub placed : Each (Placed (g .plan) (g .indices)) (stepsOf (g .plan) (g .steps))
   pub directory : directoryBad (g .directory) (length (g .samples)) ≡ false
   pub output : channelsOf (stepsOf (g .plan) (g .steps)) * g .plan .block ≤ length (s .output)
 
@@ -130,7 +124,6 @@ admitted g s e =
       fit = record {
         block = p .block;
         steps = p .limits .steps;
-        list = p .list;
         weights = p .room .coefficients;
         room = (p .room .floats, p .room .words);
         good = o .0;
@@ -138,6 +131,7 @@ admitted g s e =
       };
       step-words = p .room .steps;
       steps = p .steps;
+      placed = p .placed;
       directory = o .1 .0;
       output = rw (output-needs g s c) at (ltb-false (length (s .output)) (outputChannels (stepsOfRun g) * g .plan .block) (o .1 .1 .0));
     }

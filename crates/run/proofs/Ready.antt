@@ -24,7 +24,7 @@ use Rattle.node.proofs.Bad.{in-range-set}
 use Rattle.plan.specs.declared.Plan.{Plan}
 use Rattle.plan.specs.declared.Step.{Step}
 use Rattle.plan.specs.Limits.{unitLimits}
-use Rattle.plan.specs.Sound.{Inside, Each, stepsOf}
+use Rattle.plan.specs.Sound.{Within, Inside, Each, stepsOf}
 use Rattle.plan.specs.Resolved.{resolved}
 use Rattle.plan.proofs.Exact.{accepted-sound}
 use Rattle.plan.specs.Areas.{Areas, areas, shortAreas, shorter}
@@ -162,7 +162,7 @@ ready-only f h r directory samples out =
 -- the nodes that an accepted plan's steps use are among its nodes
 pub below : (p : Plan) (indices : List ℕ) (coefficients : List Float) (ss : List Step) → Each (Inside p) ss → NodesBelow (p .nodes) (map (resolved p indices coefficients) ss)
 below p indices coefficients [] o = tt
-below p indices coefficients (x ∷ ss) o = (node-inside p indices coefficients x (o .0), below p indices coefficients ss (o .1))
+below p indices coefficients (x ∷ ss) o = (node-inside p indices coefficients (Within (p .indices)) (Within (p .coefficients)) x (o .0), below p indices coefficients ss (o .1))
 
 module _ (f : Fixed) where
   alike-ready : (h t : Changing) → Ready f h → Alike f h t → someBad (t .words) (f .plan .nodes) ≡ false → Ready f t

@@ -9,7 +9,7 @@ use Rattle.node.specs.Areas.{Room, someBad}
 use Rattle.plan.specs.declared.Plan.{Plan}
 use Rattle.plan.specs.declared.Step.{Step}
 use Rattle.plan.specs.Limits.{maxBlock, unitLimits}
-use Rattle.plan.specs.Sound.{Narrow, Apart, Placed, IndexList}
+use Rattle.plan.specs.Sound.{Narrow, Apart, Placed}
 use Rattle.run.specs.Run.{State}
 
 -- ---- what the tests said
@@ -18,7 +18,6 @@ use Rattle.run.specs.Run.{State}
 pub record Fit (p : Plan) (indices : List ℕ) (coefficients : List Float) (s : State) : Type 0 where
   pub block : p .block ≤ maxBlock
   pub steps : p .steps ≤ unitLimits .steps
-  pub list : IndexList p indices
   pub weights : p .coefficients ≤ length coefficients
   pub room : Room (p .nodes) (s .floats) (s .words)
   pub good : someBad (s .words) (p .nodes) ≡ false

@@ -13,10 +13,10 @@ use Rattle.plan.specs.declared.Step.{Step}
 use Rattle.plan.specs.declared.Read.the-variants.{Found, Bad}
 use Rattle.plan.specs.Words.{readAt, decodedFrom, decoded}
 use Rattle.plan.specs.Resolved.{Resolved, resolved, nodeNamed}
-use Rattle.plan.specs.Sound.{Inside, Passes}
+use Rattle.plan.specs.Sound.{Within, Names, Placed, Passes}
 use Rattle.plan.proofs.Answers.{rest-of}
 use Rattle.plan.proofs.Words.{decoded-on, decoded-bad, decoded-none}
-use Rattle.plan.proofs.Accepted.{pass-inside, pass-placed, pass-narrow, pass-apart, pass-rest}
+use Rattle.plan.proofs.Accepted.{pass-placed, pass-narrow, pass-apart, pass-rest}
 use Rattle.plan.proofs.Named.{node-inside}
 use Rattle.plan.specs.Loops.{channels, channelsOf}
 use Rattle.run.specs.Run.{State, stepped, runSteps}
@@ -26,11 +26,11 @@ use Rattle.run.proofs.States.{Good, step-nodes, good-ends}
 
 -- a step makes no node bad
 module _ (p : Plan) (indices : List ℕ) (coefficients : List Float) (block : ℕ) (input : ℕ → ℕ → List Float) (s : State) where
-  pub stepped-good : (x : Step) → Fit p indices coefficients s → Inside p x → someBad (stepped block input (resolved p indices coefficients x) s .words) (p .nodes) ≡ false
+  pub stepped-good : (x : Step) → Fit p indices coefficients s → Placed p indices x → someBad (stepped block input (resolved p indices coefficients x) s .words) (p .nodes) ≡ false
   stepped-good x f h =
       let y = resolved p indices coefficients x in
       let good : Good (p .nodes) (idAt (s .words)) (s .words) = record { room = f .room .1; ids-are = λ i l. refl; none-bad = f .good } in
-      rw (step-nodes block input y s .words) (good-ends (p .nodes) (idAt (s .words)) block (nodeNamed y) s good (node-inside p indices coefficients x h) .none-bad)
+      rw (step-nodes block input y s .words) (good-ends (p .nodes) (idAt (s .words)) block (nodeNamed y) s good (node-inside p indices coefficients (Names p indices) (Within (p .coefficients)) x h) .none-bad)
 
 module _ (p : Plan) (indices : List ℕ) (coefficients : List Float) (input : ℕ → ℕ → List Float) (w : List ℕ) (s₀ : State) where
   abbrev steps-of : List Step → List Resolved
@@ -79,7 +79,7 @@ module _ (p : Plan) (indices : List ℕ) (coefficients : List Float) (input : �
       going-fits = (
         record {
           fit = c .fit;
-          inside = pass-placed p indices w at (rest-of h) (c .pass) r (c .fit .list);
+          inside = pass-placed p indices w at (rest-of h) (c .pass) r;
           narrow = pass-narrow p indices w at (rest-of h) (c .pass) r;
           apart = pass-apart p indices w at (rest-of h) (c .pass) r;
         },
@@ -99,10 +99,9 @@ module _ (p : Plan) (indices : List ℕ) (coefficients : List Float) (input : �
             fit = record {
               block = c .fit .block;
               steps = c .fit .steps;
-              list = c .fit .list;
               weights = c .fit .weights;
               room = rw (lf, lw) (c .fit .room);
-              good = ap (λ (y : State). someBad (y .words) (p .nodes)) q ∙ stepped-good p indices coefficients (p .block) input s x (c .fit) (pass-inside p indices w at (rest-of h) (c .pass) r);
+              good = ap (λ (y : State). someBad (y .words) (p .nodes)) q ∙ stepped-good p indices coefficients (p .block) input s x (c .fit) (f .inside);
               buffers = rw lb (c .fit .buffers);
             };
             pass = pass-rest p indices w at (rest-of h) (c .pass) r;

@@ -24,18 +24,15 @@ use Rattle.plan.specs.declared.Plan.{Plan}
 use Rattle.plan.specs.declared.Span.{Span}
 use Rattle.plan.specs.declared.Step.{Step}
 use Rattle.plan.specs.declared.Step.the-variants.{Patch, Gain, Matrix, Clear, Send, Output}
-use Rattle.plan.specs.Areas.{shortAreas}
 use Rattle.plan.specs.Check.{named}
 use Rattle.plan.specs.Resolved.{Resolved, resolved}
 use Rattle.plan.specs.Sound.{Each, stepsOf, Names, Placed}
-use Rattle.plan.proofs.Accepted.{all-placed}
-use Rattle.plan.proofs.Exact.{accepted-sound}
 use Rattle.plan.proofs.Spans.{names-length, names-below}
 use Rattle.input.specs.Input.{lookup}
 use Rattle.run.specs.Run.{RunGiven, State, runSteps, outputChannels, processed}
 use Rattle.run.specs.Calls.{Fixed, Changing, leftBy, Call, set, run, givenTo, start, answer, after, stepsOfPlan}
 use Rattle.run.proofs.Answers.{accepted-runs}
-use Rattle.run.proofs.Admitted.{areas-of, admitted, output-needs}
+use Rattle.run.proofs.Admitted.{admitted, output-needs}
 use Rattle.run.proofs.States.{run-lengths}
 use Rattle.run.proofs.Ready.{refused-run, refused-set}
 use Rattle.theorem.specs.Journal.{Entry, entry, journal, total, written}
@@ -116,13 +113,12 @@ module _ (f : Fixed) where
     pub run-fits : Fits (start f h out)
     run-fits =
         let a = admitted g s e in
-        let sound = accepted-sound (f .plan) (shortAreas (f .plan) (areas-of g s)) (f .indices) (h .words) (f .steps) (a .plan) in
         record {
           room = a .fit .room;
           buffers = a .fit .buffers;
           output = rw (output-needs g s (a .plan)) (a .output);
           wrote = refl;
-          in-plan = all-in-plan (f .plan) (f .indices) (f .coefficients) (stepsOf (f .plan) (f .steps)) (all-placed (f .plan) (f .indices) (a .fit .list) (stepsOf (f .plan) (f .steps)) (sound .inside));
+          in-plan = all-in-plan (f .plan) (f .indices) (f .coefficients) (stepsOf (f .plan) (f .steps)) (a .placed);
         }
 
     pub nodes-then : nodesOf (after f h (run directory samples out)) ≡ nodesAfter n steps (nodesOf h)

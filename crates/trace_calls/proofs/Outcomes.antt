@@ -26,8 +26,8 @@ use Rattle.plan.specs.Areas.{shortLists}
 use Rattle.plan.specs.Check.{planTests, checked}
 use Rattle.plan.specs.Sound.{stepsOf, Tested}
 use Rattle.plan.specs.Resolved.{Resolved}
-use Rattle.plan.proofs.Exact.{accepted-passes, accepted-sound}
-use Rattle.plan.proofs.Accepted.{accepted-limits, accepted-list, accepted-lists}
+use Rattle.plan.proofs.Exact.{accepted-sound}
+use Rattle.plan.proofs.Accepted.{accepted-limits, accepted-lists, accepted-passes}
 use Rattle.trace.specs.Sources.{noSources, behind, sourceList, slotCount}
 use Rattle.trace.specs.Clean.{clean}
 use Rattle.trace.specs.Calls.{tracedSteps, traceAnswer, sourcesAnswer, sourcesArea, allTraced, allAnswer, countsOf, listsOf, allCounts, allLists, cleanAnswer}
@@ -168,10 +168,11 @@ module _ (p : Plan) (indices words steps : List ℕ) where
     pub tested : Tested p indices (take (p .words) steps)
     tested =
         let short = shortLists p indices words steps in
+        let limits = accepted-limits p short indices words steps e in
         record {
-          list = accepted-list p short indices words steps e (accepted-lists p indices words steps e .entries);
-          steps = accepted-limits p short indices words steps e .steps;
-          pass = accepted-passes p short indices words steps e;
+          buffers = limits .buffers;
+          steps = limits .steps;
+          pass = accepted-passes p short indices words steps e (accepted-lists p indices words steps e .entries);
         }
 
     pub step-words : p .words ≡ length (take (p .words) steps)

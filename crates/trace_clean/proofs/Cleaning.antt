@@ -88,7 +88,7 @@ module _ (p : Plan) (indices w : List ℕ) where
   module _ {set : Set} {at i : ℕ} (c : Cleaning set at i) where
     module _ (h : i < p .steps) {x : Step} {next : ℕ} (r : readAt w at ≡ Found x next) where
       pub cleaning-fits : Placed p indices x × (p .buffers ≤ unitLimits .buffers)
-      cleaning-fits = (pass-placed p indices w at (rest-of h) (c .pass) r (c .plan .list), c .plan .list .few)
+      cleaning-fits = (pass-placed p indices w at (rest-of h) (c .pass) r, c .plan .buffers)
 
       turn : whole ≡ (cleanStep (member set) (resolved p indices [] x) && cleanFrom (writtenAfter (member set) (resolved p indices [] x)) (from (i + 1) next))
       unfolding cleanFrom

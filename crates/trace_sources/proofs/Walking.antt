@@ -135,7 +135,7 @@ module _ (p : Plan) (indices w area₀ slots₀ : List ℕ) where
   module _ {area slots : List ℕ} {count at i : ℕ} (c : Walking area slots count at i) where
     module _ (h : i < p .steps) {x : Step} {next : ℕ} (r : readAt w at ≡ Found x next) where
       pub walking-fits : Fit p indices area x
-      walking-fits = record { few = c .plan .list .few; inside = pass-placed p indices w at (rest-of h) (c .pass) r (c .plan .list); room = c .room }
+      walking-fits = record { inside = pass-placed p indices w at (rest-of h) (c .pass) r; room = record { buffers = c .plan .buffers; words = c .room } }
 
       pub walking-on : (area′ slots′ : List ℕ) (count′ : ℕ)
           → ((s j : ℕ) → sourcesOf slots′ s j ≡ (sourcesOf slots s j || joins s (sourcesOf area) (resolved p indices [] x) j))

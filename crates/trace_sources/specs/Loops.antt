@@ -49,16 +49,20 @@ joined set i own = own || member set i
 
 -- ---- what the tests said of an accepted plan, and the area of its sets
 
+-- it has a set for each buffer
+pub record SetRoom (p : Plan) (area : List ℕ) : Type 0 where
+  pub buffers : p .buffers ≤ unitLimits .buffers
+  pub words : length area ≡ areaWords
+
 -- of a step, and of two spans
 pub record Fit (p : Plan) (indices area : List ℕ) (x : Step) : Type 0 where
-  pub few : p .buffers ≤ unitLimits .buffers
   pub inside : Placed p indices x
-  pub room : length area ≡ areaWords
+  pub room : SetRoom p area
 
 pub record Spans (p : Plan) (indices area : List ℕ) (src dst : Span) : Type 0 where
   pub sources : Names p indices src
   pub targets : Names p indices dst
-  pub room : length area ≡ areaWords
+  pub room : SetRoom p area
 
 -- ---- the count of slots where step x comes to those before it
 abbrev pub withSlot : ℕ → Step → ℕ

@@ -22,7 +22,7 @@ ghost use Rattle.plan.specs.Check.{named};
 ghost use Rattle.plan.specs.Sound.{Names, Tested};
 ghost use Rattle.plan.specs.Resolved.{resolved};
 ghost use Rattle.trace.specs.Sources.{noSources, union, spread, joins, behind, slotCount};
-ghost use Rattle.trace_sources.specs.Loops.{areaWords, slotWords, sourcesOf, changed, withSlot, Fit, Spans};
+ghost use Rattle.trace_sources.specs.Loops.{areaWords, slotWords, sourcesOf, changed, withSlot, SetRoom, Fit, Spans};
 
 // The words of the sets of all buffers, and of all slots.
 const AREA_WORDS: usize = Plan::MAX_BUFFERS * Set::WORDS;
@@ -43,9 +43,9 @@ fn with_slot(count: usize, step: Step) -> usize
     named + 1
 }
 
-// The inputs behind the buffers of a span. Requires a span that names buffers, and the words of all buffers.
+// The inputs behind the buffers of a span. Requires a span that names buffers, and a set for each buffer of the plan.
 fn behind_span(plan: Plan, indices: &[u32], area: &[u64], src: Span) -> Set
-    requires { ⌜ Names plan (now indices) src × (length (now area) ≡ areaWords) ⌝ }
+    requires { ⌜ Names plan (now indices) src × SetRoom plan (now area) ⌝ }
     ensures { λ r. ⌜ ((i : ℕ) → member r i ≡ union (sourcesOf (now (area .entry))) (named (now (indices .entry)) src) i) ⌝ }
 {
     union_of(area, plan_steps::numbers(indices, src))
@@ -59,7 +59,7 @@ fn patch(area: &mut [u64], input: u32, dst: u32)
     store(area, dst, Set::empty().with(input));
 }
 
-// Gain and Matrix. Requires spans of a plan that was tested, and the words of all buffers.
+// Gain and Matrix. Requires two spans that name buffers, and a set for each buffer of the plan.
 fn replace(plan: Plan, indices: &[u32], area: &mut [u64], src: Span, dst: Span)
     requires { ⌜ Spans plan (now indices) (now area) src dst ⌝ }
     ensures { λ _. ⌜ sourcesOf (now (area .exit)) ≡ changed (λ i own. union (sourcesOf (now (area .entry))) (named (now (indices .entry)) src) i) (sourcesOf (now (area .entry))) (named (now (indices .entry)) dst) ⌝ }
@@ -68,9 +68,9 @@ fn replace(plan: Plan, indices: &[u32], area: &mut [u64], src: Span, dst: Span)
     give(area, plan_steps::numbers(indices, dst), set);
 }
 
-// Clear. Requires a span that names buffers, and the words of all buffers.
+// Clear. Requires as `behind_span`.
 fn clear(plan: Plan, indices: &[u32], area: &mut [u64], dst: Span)
-    requires { ⌜ Names plan (now indices) dst × (length (now area) ≡ areaWords) ⌝ }
+    requires { ⌜ Names plan (now indices) dst × SetRoom plan (now area) ⌝ }
     ensures { λ _. ⌜ sourcesOf (now (area .exit)) ≡ changed (λ i own. false) (sourcesOf (now (area .entry))) (named (now (indices .entry)) dst) ⌝ }
 {
     give(area, plan_steps::numbers(indices, dst), Set::empty());
@@ -85,7 +85,7 @@ fn send(plan: Plan, indices: &[u32], area: &mut [u64], src: Span, dst: Span)
     add(area, plan_steps::numbers(indices, dst), more);
 }
 
-// The sets after a step. Requires what the tests said of the plan and of it, and the words of all buffers.
+// The sets after a step. Requires what the tests said of the plan and of it, and a set for each buffer of the plan.
 fn spread(plan: Plan, indices: &[u32], area: &mut [u64], step: Step)
     requires { ⌜ Fit plan (now indices) (now area) step ⌝ }
     ensures { λ _. ⌜ sourcesOf (now (area .exit)) ≡ spread (sourcesOf (now (area .entry))) (resolved plan (now (indices .entry)) [] step) ⌝ }

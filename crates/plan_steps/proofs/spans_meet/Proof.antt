@@ -29,7 +29,7 @@ lists-meet-requires : tie.Need-lists-meet-requires
 lists-meet-requires c κs =
     let s = c .before .before .before .before .before in
     let a = s .args in
-    ap (someFrom setSize) (c .numbers2 .ensures) ∙ names-low (a .plan) (a .indices .now) (a .dst) (names (a .plan) (a .indices .now) (s .pre .0) (a .dst) (s .pre .2))
+    ap (someFrom setSize) (c .numbers2 .ensures) ∙ names-low (a .plan) (a .indices .now) (a .dst) (names (a .plan) (a .indices .now) (s .pre .0) (a .dst) (s .pre .2)) (s .pre .0 .few)
 
 returns-2 : tie.Need-returns-2
 returns-2 c = rw (c .lists-meet .ensures, c .before .numbers2 .ensures, c .before .before .numbers .ensures)

@@ -16,7 +16,7 @@ numbers-requires c κs = search needs
 set-of-requires : tie.Need-set-of-requires
 set-of-requires c κs =
     let s = c .before .before in
-    ap (someFrom setSize) (c .numbers .ensures) ∙ names-low (s .args .plan) (s .args .indices .now) (s .args .span) (s .pre)
+    ap (someFrom setSize) (c .numbers .ensures) ∙ names-low (s .args .plan) (s .args .indices .now) (s .args .span) (s .pre .0) (s .pre .1)
 
 union-requires : tie.Need-union-requires
 union-requires c κs = search needs

@@ -26,7 +26,7 @@ with-span-requires : tie.Need-with-span-requires
 with-span-requires c κs =
     let s = c .before .before .before .before in
     let h = placed-as (s .args .plan) (s .args .indices .now) (c .before .step2 .given .1) (s .pre .0) in
-    h .2
+    (h .2, s .pre .1)
 
 enum-known-step-3 : tie.Need-enum-known-step-3
 enum-known-step-3 c = search needs
@@ -35,7 +35,7 @@ with-span-requires-2 : tie.Need-with-span-requires-2
 with-span-requires-2 c κs =
     let s = c .before .before .before .before in
     let h = placed-as (s .args .plan) (s .args .indices .now) (c .before .step3 .given .1) (s .pre .0) in
-    h .2
+    (h .2, s .pre .1)
 
 enum-known-step-4 : tie.Need-enum-known-step-4
 enum-known-step-4 c = search needs
@@ -44,7 +44,7 @@ with-span-requires-3 : tie.Need-with-span-requires-3
 with-span-requires-3 c κs =
     let s = c .before .before .before .before in
     let h = placed-as (s .args .plan) (s .args .indices .now) (c .before .step4 .given .1) (s .pre .0) in
-    h
+    (h, s .pre .1)
 
 enum-told : tie.Need-enum-told
 enum-told c = search needs

@@ -17,7 +17,7 @@ numbers-requires c κs = search needs
 union-of-requires : tie.Need-union-of-requires
 union-of-requires c κs =
     let s = c .before .before .before in
-    (ap (someFrom (unitLimits .buffers)) (c .numbers .ensures) ∙ names-low (s .args .plan) (s .args .indices .now) (s .args .src) (s .pre .0), s .pre .1)
+    (ap (someFrom (unitLimits .buffers)) (c .numbers .ensures) ∙ names-low (s .args .plan) (s .args .indices .now) (s .args .src) (s .pre .0) (s .pre .1 .buffers), s .pre .1 .words)
 
 returns : tie.Need-returns
 returns c i = c .union-of .ensures i ∙ ap (λ (l : List ℕ). union (sourcesOf (c .before .before .before .before .args .area .now)) l i) (c .before .numbers .ensures)

@@ -19,7 +19,7 @@ empty-requires c κs = search needs
 give-requires : tie.Need-give-requires
 give-requires c κs =
     let s = c .before .before .before .before .before in
-    (ap (someFrom (unitLimits .buffers)) (c .before .numbers .ensures) ∙ names-low (s .args .plan) (s .args .indices .now) (s .args .dst) (s .pre .0), s .pre .1)
+    (ap (someFrom (unitLimits .buffers)) (c .before .numbers .ensures) ∙ names-low (s .args .plan) (s .args .indices .now) (s .args .dst) (s .pre .0) (s .pre .1 .buffers), s .pre .1 .words)
 
 same-length : tie.Need-same-length
 same-length c = search needs

@@ -20,7 +20,7 @@ numbers-requires c κs = search needs
 give-requires : tie.Need-give-requires
 give-requires c κs =
     let s = c .before .before .before .before .before .before in
-    (ap (someFrom (unitLimits .buffers)) (c .numbers .ensures) ∙ names-low (s .args .plan) (s .args .indices .now) (s .args .dst) (s .pre .targets), s .pre .room)
+    (ap (someFrom (unitLimits .buffers)) (c .numbers .ensures) ∙ names-low (s .args .plan) (s .args .indices .now) (s .args .dst) (s .pre .targets) (s .pre .room .buffers), s .pre .room .words)
 
 same-length : tie.Need-same-length
 same-length c = search needs

@@ -21,7 +21,7 @@ numbers-requires c κs = search needs
 add-requires : tie.Need-add-requires
 add-requires c κs =
     let s = c .before .before .before .before .before .before in
-    (ap (someFrom (unitLimits .buffers)) (c .numbers .ensures) ∙ names-low (s .args .plan) (s .args .indices .now) (s .args .dst) (s .pre .targets), s .pre .room)
+    (ap (someFrom (unitLimits .buffers)) (c .numbers .ensures) ∙ names-low (s .args .plan) (s .args .indices .now) (s .args .dst) (s .pre .targets) (s .pre .room .buffers), s .pre .room .words)
 
 same-length : tie.Need-same-length
 same-length c = search needs

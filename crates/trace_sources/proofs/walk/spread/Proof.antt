@@ -14,7 +14,7 @@ enum-known-step c = search needs
 patch-requires : tie.Need-patch-requires
 patch-requires c κs =
     let f = fit-as (c .before .before .step .given .1) (c .before .before .before .before .before .before .pre) in
-    (f .inside .0, omega (arith, f .inside .1, f .few), f .room)
+    (f .inside .0, omega (arith, f .inside .1, f .room .buffers), f .room .words)
 
 enum-known-step-2 : tie.Need-enum-known-step-2
 enum-known-step-2 c = search needs
