@@ -48,4 +48,4 @@ module _ (s₁ s₂ : BuilderState) (d : Draft) (h₁ : Drafted s₁ d) (h₂ : 
 
     -- whatever stands in the buffers
     pub one-draft : (buffers₁ buffers₂ : List Float) → OneDraft (planOf s₁) (planOf s₂) (areasOf s₁ buffers₁) (areasOf s₂ buffers₂)
-    one-draft buffers₁ buffers₂ = record { plan = record { steps = same-steps; buffers = h₂ .buffers ∙ sym (h₁ .buffers) }; lasting = record { nodes = same-nodes } }
+    one-draft buffers₁ buffers₂ = record { plan = record { steps = same-steps; buffers = h₂ .buffers ∙ sym (h₁ .buffers) }; nodes = same-nodes }

@@ -28,8 +28,8 @@ use Rattle.theorem.proofs.Settings.{by, heads, tails, not-empty, none-e
 use Rattle.theorem.proofs.Runs.{Went, none, then, nodesOf, nodes-then, part-length, run-sample}
 use Rattle.theorem.proofs.Pairs.{SamePlan, below₁, below₂, one-sample}
 
--- what lasts from run to run
-pub record Same (f₁ f₂ : Fixed) (h₁ h₂ : Changing) : Type 0 where
+-- what lasts from run to run, where the inputs of L carry equal samples
+pub record Same (f₁ f₂ : Fixed) (L : ℕ → Bool) (h₁ h₂ : Changing) : Type 0 where
   pub nodes : nodesOf f₁ h₁ ≡ nodesOf f₂ h₂
 
 -- ---- an input that carries equal samples: in a run, and in the runs after it
@@ -57,11 +57,11 @@ module _ (n₁ n₂ : ℕ) (equal : n₁ ≡ n₂) (d₁ d₂ : List ℕ) (x₁ 
           ∙ drop-at (take n₂ v) (carried n₂ i c es₂) n₁ (length-take-le n₂ v w₂ ∙ sym equal)
 
 -- ---- one accepted setting of each
-module _ (f₁ f₂ : Fixed) (h₁ h₂ : Changing) (lasting : Same f₁ f₂ h₁ h₂) where
+module _ (f₁ f₂ : Fixed) (L : ℕ → Bool) (h₁ h₂ : Changing) (lasting : Same f₁ f₂ L h₁ h₂) where
   set-lasts : (id₁ id₂ ramp₁ ramp₂ : ℕ) (values₁ values₂ : List Float)
       → answer f₁ h₁ (set id₁ values₁ ramp₁) ≡ Accepted → answer f₂ h₂ (set id₂ values₂ ramp₂) ≡ Accepted
       → nodesSet id₁ ramp₁ values₁ (nodesOf f₂ h₂) ≡ nodesSet id₂ ramp₂ values₂ (nodesOf f₂ h₂)
-      → Same f₁ f₂ (after f₁ h₁ (set id₁ values₁ ramp₁)) (after f₂ h₂ (set id₂ values₂ ramp₂))
+      → Same f₁ f₂ L (after f₁ h₁ (set id₁ values₁ ramp₁)) (after f₂ h₂ (set id₂ values₂ ramp₂))
   set-lasts id₁ id₂ ramp₁ ramp₂ values₁ values₂ e₁ e₂ alike =
       record {
         nodes =
@@ -87,7 +87,7 @@ module _ (f₁ f₂ : Fixed) (same : SamePlan f₁ f₂) (clean : cleanFrom none
   at₂ = below₂ f₁ f₂ same clean s q ch L within
 
   -- ---- one accepted run of each
-  module _ (h₁ h₂ : Changing) (lasting : Same f₁ f₂ h₁ h₂) (d₁ d₂ : List ℕ) (x₁ x₂ out₁ out₂ : List Float)
+  module _ (h₁ h₂ : Changing) (lasting : Same f₁ f₂ L h₁ h₂) (d₁ d₂ : List ℕ) (x₁ x₂ out₁ out₂ : List Float)
       (e₁ : answer f₁ h₁ (run d₁ x₁ out₁) ≡ Accepted) (e₂ : answer f₂ h₂ (run d₂ x₂ out₂) ≡ Accepted) (es₁ es₂ : List Entry)
       (carry : (i c : ℕ) → L i ≡ true → CarryEqual (f₁ .plan .block) (f₂ .plan .block) i c (entry f₁ h₁ (run d₁ x₁ out₁) ∷ es₁) (entry f₂ h₂ (run d₂ x₂ out₂) ∷ es₂)) where
     abbrev o₁ : List Float
@@ -111,7 +111,7 @@ module _ (f₁ f₂ : Fixed) (same : SamePlan f₁ f₂) (clean : cleanFrom none
             (lasting .nodes) (inl (equal, refl)) (λ i c p. now-heard n₁ n₂ equal d₁ d₂ x₁ x₂ o₁ o₂ es₁ es₂ i c (carry i c p) k l) _ _
             (run-sample f₁ q at₁ h₁ d₁ x₁ out₁ e₁ k l) (run-sample f₂ q at₂ h₂ d₂ x₂ out₂ e₂ k (omega arith))
 
-    run-lasts : Same f₁ f₂ (after f₁ h₁ (run d₁ x₁ out₁)) (after f₂ h₂ (run d₂ x₂ out₂))
+    run-lasts : Same f₁ f₂ L (after f₁ h₁ (run d₁ x₁ out₁)) (after f₂ h₂ (run d₂ x₂ out₂))
     run-lasts =
         record {
           nodes =
@@ -127,7 +127,7 @@ module _ (f₁ f₂ : Fixed) (same : SamePlan f₁ f₂) (clean : cleanFrom none
 
   -- ---- the whole lists, which start at the same sample; no run is empty
   module _ (least : 0 < f₁ .plan .block) where
-    pub in-step : {h₁ h₂ : Changing} {es₁ es₂ : List Entry} → Went f₁ h₁ es₁ → Went f₂ h₂ es₂ → Same f₁ f₂ h₁ h₂ → (at₁ at₂ : ℕ) → at₁ ≡ at₂
+    pub in-step : {h₁ h₂ : Changing} {es₁ es₂ : List Entry} → Went f₁ h₁ es₁ → Went f₂ h₂ es₂ → Same f₁ f₂ L h₁ h₂ → (at₁ at₂ : ℕ) → at₁ ≡ at₂
         → total n₁ es₁ ≡ total n₂ es₂ → settingsFrom n₁ at₁ es₁ ≡ settingsFrom n₂ at₂ es₂ → ((i c : ℕ) → L i ≡ true → CarryEqual n₁ n₂ i c es₁ es₂)
         → written n₁ q es₁ ≡ written n₂ q es₂
     in-step none none t at₁ at₂ z sum e carry = refl
@@ -140,7 +140,7 @@ module _ (f₁ f₂ : Fixed) (same : SamePlan f₁ f₂) (clean : cleanFrom none
     in-step (then {es = es₁} (run d x out) a w) (then (set id values ramp) a₂ w₂) t at₁ at₂ z sum e carry =
         absurd (none-earlier n₁ es₁ (at₁ + n₁) _ _ (omega arith) (sym e))
     in-step {h₁} {h₂} (then (set id values ramp) a w) (then (set id₂ values₂ ramp₂) a₂ w₂) t at₁ at₂ z sum e carry =
-        in-step w w₂ (set-lasts f₁ f₂ h₁ h₂ t id id₂ ramp ramp₂ values values₂ a a₂ (ap (λ (y : Setting). by y (nodesOf f₂ h₂)) (heads _ _ _ _ e)))
+        in-step w w₂ (set-lasts f₁ f₂ L h₁ h₂ t id id₂ ramp ramp₂ values values₂ a a₂ (ap (λ (y : Setting). by y (nodesOf f₂ h₂)) (heads _ _ _ _ e)))
         at₁ at₂ z sum (tails _ _ _ _ e) carry
     in-step {h₁} {h₂} (then {es = es₁} (run d x out) a w) (then {es = es₂} (run d₂ x₂ out₂) a₂ w₂) t at₁ at₂ z sum e carry =
         let rest = in-step w w₂ (run-lasts h₁ h₂ t d d₂ x x₂ out out₂ a a₂ es₁ es₂ carry) (at₁ + n₁) (at₂ + n₂) (omega arith) (omega arith) e

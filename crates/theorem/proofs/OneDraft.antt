@@ -1,7 +1,7 @@
 -- Two plans that hold one and the same draft, however they were made, and a list of calls after each: where the lists are alike and the listed inputs
 -- carry equal samples, both write the same. Assumes nothing.
 use mathlib.Core.Path.{_≡_, refl, subst}
-use mathlib.Core.Bool.{true}
+use mathlib.Core.Bool.{Bool, true}
 use mathlib.Core.List.{List}
 use Prim.Native.Nat.{ℕ}
 use native.Mathlib.Decide.{ℕ-discrete}
@@ -25,7 +25,11 @@ use Rattle.theorem.proofs.CleanPlans.{clean-sound, clean-steps, all-lis
 -- buffers; of what later calls change, the nodes. Their blocks, where their spans start and what their areas hold besides may differ.
 pub record OneDraft (f₁ f₂ : Fixed) (h₁ h₂ : Changing) : Type 0 where
   pub plan : SamePlan f₁ f₂
-  pub lasting : Same f₁ f₂ h₁ h₂
+  pub nodes : nodesOf f₁ h₁ ≡ nodesOf f₂ h₂
+
+-- so what lasts is the same before the first run, whatever inputs carry equal samples
+starts-same : (f₁ f₂ : Fixed) (h₁ h₂ : Changing) → OneDraft f₁ f₂ h₁ h₂ → (L : ℕ → Bool) → Same f₁ f₂ L h₁ h₂
+starts-same f₁ f₂ h₁ h₂ d L = record { nodes = d .nodes }
 
 module _ (f₁ f₂ : Fixed) (h₁ h₂ : Changing) (cs₁ cs₂ : List Call) where
   abbrev es₁ : List Entry
@@ -63,8 +67,8 @@ module _ (f₁ f₂ : Fixed) (h₁ h₂ : Changing) (cs₁ cs₂ : List Call) wh
       same : SamePlan f₁ f₂
       same = given .one-draft .plan
 
-      lasting : Same f₁ f₂ h₁ h₂
-      lasting = given .one-draft .lasting
+      lasting : Same f₁ f₂ (has (listFor f₁ s)) h₁ h₂
+      lasting = starts-same f₁ f₂ h₁ h₂ (given .one-draft) (has (listFor f₁ s))
 
       clean : cleanFrom noneWritten (stepsOfPlan f₁) ≡ true
       clean = clean-steps f₁ (h₁ .words) (given .clean)

@@ -46,7 +46,7 @@ module _ (f : Fixed) (h : Changing) (out : List Float) where
         record {
           first-block = refl;
           second-block = refl;
-          one-draft = record { plan = record { steps = refl; buffers = refl }; lasting = record { nodes = refl } };
+          one-draft = record { plan = record { steps = refl; buffers = refl }; nodes = refl };
           clean = clean;
           same-total = rw (es, fs) refl;
           alike = rw (es, fs) refl;
