@@ -67,19 +67,19 @@ module _ (b₁ k₁ b₂ k₂ : ℕ) (h₁ : k₁ < b₁) (h₂ : k₂ < b₂) w
 
     -- From two areas to two others: what agreed still does, and buffers with P agree.
     pub record Paired (P : ℕ → Type 0) (old₁ old₂ new₁ new₂ : List Float) : Type 0 where
-      pub hold : BufferRoom new₁ new₂
+      pub room : BufferRoom new₁ new₂
       pub kept : (b : ℕ) → Agree old₁ old₂ b → Agree new₁ new₂ b
       pub made : (b : ℕ) → P b → Agree new₁ new₂ b
 
     -- ---- one buffer written
-    module _ {area₁ area₂ : List Float} (d : ℕ) (below : d < m) (hold : BufferRoom area₁ area₂) (f₁ f₂ : ℕ → Float) where
-      hold-put : BufferRoom (put b₁ d f₁ area₁) (put b₂ d f₂ area₂)
-      hold-put = record { first = rw (length-put b₁ d f₁ area₁) (hold .first); second = rw (length-put b₂ d f₂ area₂) (hold .second) }
+    module _ {area₁ area₂ : List Float} (d : ℕ) (below : d < m) (room : BufferRoom area₁ area₂) (f₁ f₂ : ℕ → Float) where
+      room-put : BufferRoom (put b₁ d f₁ area₁) (put b₂ d f₂ area₂)
+      room-put = record { first = rw (length-put b₁ d f₁ area₁) (room .first); second = rw (length-put b₂ d f₂ area₂) (room .second) }
 
       put-here : f₁ k₁ ≡ f₂ k₂ → Agree (put b₁ d f₁ area₁) (put b₂ d f₂ area₂) d
       put-here e =
-          put-sample b₁ d f₁ area₁ k₁ h₁ (buffer-inside m b₁ d area₁ below (hold .first))
-          ∙ e ∙ sym (put-sample b₂ d f₂ area₂ k₂ h₂ (buffer-inside m b₂ d area₂ below (hold .second)))
+          put-sample b₁ d f₁ area₁ k₁ h₁ (buffer-inside m b₁ d area₁ below (room .first))
+          ∙ e ∙ sym (put-sample b₂ d f₂ area₂ k₂ h₂ (buffer-inside m b₂ d area₂ below (room .second)))
 
       put-kept : (Agree area₁ area₂ d → f₁ k₁ ≡ f₂ k₂) → (b : ℕ) → Agree area₁ area₂ b → Agree (put b₁ d f₁ area₁) (put b₂ d f₂ area₂) b
       put-kept e b g = go (ℕ-discrete b d)
@@ -90,18 +90,18 @@ module _ (b₁ k₁ b₂ k₂ : ℕ) (h₁ : k₁ < b₁) (h₂ : k₂ < b₂) w
 
       -- anew, whatever it held
       put-anew : f₁ k₁ ≡ f₂ k₂ → Paired (λ b. b ≡ d) area₁ area₂ (put b₁ d f₁ area₁) (put b₂ d f₂ area₂)
-      put-anew e = record { hold = hold-put; kept = put-kept (λ _. e); made = λ b p. rw p (put-here e) }
+      put-anew e = record { room = room-put; kept = put-kept (λ _. e); made = λ b p. rw p (put-here e) }
 
       -- from what it held
       put-more : (Agree area₁ area₂ d → f₁ k₁ ≡ f₂ k₂) → Paired (λ b. ⊥) area₁ area₂ (put b₁ d f₁ area₁) (put b₂ d f₂ area₂)
-      put-more e = record { hold = hold-put; kept = put-kept e; made = λ b p. absurd p }
+      put-more e = record { room = room-put; kept = put-kept e; made = λ b p. absurd p }
 
     -- ---- one after the other
     nothing : {area₁ area₂ : List Float} → BufferRoom area₁ area₂ → Paired (λ b. ⊥) area₁ area₂ area₁ area₂
-    nothing h = record { hold = h; kept = λ b g. g; made = λ b p. absurd p }
+    nothing h = record { room = h; kept = λ b g. g; made = λ b p. absurd p }
 
     then : {P Q R : ℕ → Type 0} {o₁ o₂ p₁ p₂ n₁ n₂ : List Float} → Paired P o₁ o₂ p₁ p₂ → Paired Q p₁ p₂ n₁ n₂ → ((b : ℕ) → R b → P b ⊎ Q b) → Paired R o₁ o₂ n₁ n₂
-    then {P} {Q} {R} {n₁ = n₁} {n₂ = n₂} p q r = record { hold = q .hold; kept = λ b g. q .kept b (p .kept b g); made = λ b x. by b (r b x) }
+    then {P} {Q} {R} {n₁ = n₁} {n₂ = n₂} p q r = record { room = q .room; kept = λ b g. q .kept b (p .kept b g); made = λ b x. by b (r b x) }
       where
         by : (b : ℕ) → P b ⊎ Q b → Agree n₁ n₂ b
         by b (inl x) = q .kept b (p .made b x)
@@ -124,13 +124,13 @@ module _ (b₁ k₁ b₂ k₂ : ℕ) (h₁ : k₁ < b₁) (h₂ : k₂ < b₂) w
       pub gained-paired : (c : ℕ) (src dst : List ℕ) (area₁ area₂ : List Float) → BufferRoom area₁ area₂ → All (λ d. d < m) dst → All (Agree area₁ area₂) src → length dst ≤ length src
           → Paired (λ b. has dst b ≡ true) area₁ area₂ (gained b₁ gain c src dst area₁) (gained b₂ gain c src dst area₂)
       unfolding gained
-      gained-paired c [] [] area₁ area₂ h below agree l = record { hold = h; kept = λ b g. g; made = λ b e. absurd (none-there b e) }
+      gained-paired c [] [] area₁ area₂ h below agree l = record { room = h; kept = λ b g. g; made = λ b e. absurd (none-there b e) }
       gained-paired c [] (d ∷ dst) area₁ area₂ h below agree l = absurd (not-suc-le-zero l)
-      gained-paired c (s ∷ src) [] area₁ area₂ h below agree l = record { hold = h; kept = λ b g. g; made = λ b e. absurd (none-there b e) }
+      gained-paired c (s ∷ src) [] area₁ area₂ h below agree l = record { room = h; kept = λ b g. g; made = λ b e. absurd (none-there b e) }
       gained-paired c (s ∷ src) (d ∷ dst) area₁ area₂ h below agree l =
           let p = put-anew d (below .0) h (λ k. scaled (gain c) k (sample b₁ area₁ s k)) (λ k. scaled (gain c) k (sample b₂ area₂ s k))
           (scaled-same k₁ k₂ (gain c) (even c) (agree .0)) in
-          then p (gained-paired (suc c) src dst (scale b₁ (gain c) s d area₁) (scale b₂ (gain c) s d area₂) (p .hold) (below .1) (all-map (p .kept) src (agree .1)) (le-of-suc-le-suc l))
+          then p (gained-paired (suc c) src dst (scale b₁ (gain c) s d area₁) (scale b₂ (gain c) s d area₂) (p .room) (below .1) (all-map (p .kept) src (agree .1)) (le-of-suc-le-suc l))
           (first-or-later d dst)
 
       columns-paired : (v : ℕ) (src : List ℕ) (d : ℕ) (area₁ area₂ : List Float) → BufferRoom area₁ area₂ → d < m → All (Agree area₁ area₂) src
@@ -140,19 +140,19 @@ module _ (b₁ k₁ b₂ k₂ : ℕ) (h₁ : k₁ < b₁) (h₂ : k₂ < b₂) w
       columns-paired v (s ∷ src) d area₁ area₂ h below agree =
           let p = put-more d below h (λ k. added (gain v) k (sample b₁ area₁ s k) (sample b₁ area₁ d k)) (λ k. added (gain v) k (sample b₂ area₂ s k) (sample b₂ area₂ d k))
           (λ g. added-same k₁ k₂ (gain v) (even v) (agree .0) g) in
-          then p (columns-paired (suc v) src d (mixIn b₁ (gain v) s d area₁) (mixIn b₂ (gain v) s d area₂) (p .hold) below (all-map (p .kept) src (agree .1))) (λ b e. inl e)
+          then p (columns-paired (suc v) src d (mixIn b₁ (gain v) s d area₁) (mixIn b₂ (gain v) s d area₂) (p .room) below (all-map (p .kept) src (agree .1))) (λ b e. inl e)
 
       pub rows-paired : (v : ℕ) (src dst : List ℕ) (area₁ area₂ : List Float) → BufferRoom area₁ area₂ → All (λ d. d < m) dst → All (Agree area₁ area₂) src
           → Paired (λ b. has dst b ≡ true) area₁ area₂ (rows b₁ gain v src dst area₁) (rows b₂ gain v src dst area₂)
       unfolding rows
-      rows-paired v src [] area₁ area₂ h below agree = record { hold = h; kept = λ b g. g; made = λ b e. absurd (none-there b e) }
+      rows-paired v src [] area₁ area₂ h below agree = record { room = h; kept = λ b g. g; made = λ b e. absurd (none-there b e) }
       rows-paired v src (d ∷ dst) area₁ area₂ h below agree =
           let p = put-anew d (below .0) h (λ k. silence) (λ k. silence) refl in
           let c₁ = clearBuffer b₁ d area₁ in
           let c₂ = clearBuffer b₂ d area₂ in
-          let q = columns-paired v src d c₁ c₂ (p .hold) (below .0) (all-map (p .kept) src agree) in
+          let q = columns-paired v src d c₁ c₂ (p .room) (below .0) (all-map (p .kept) src agree) in
           let pq : Paired (λ b. b ≡ d) area₁ area₂ (columns b₁ gain v src d c₁) (columns b₂ gain v src d c₂) = then p q (λ b e. inl e) in
-          then pq (rows-paired (v + length src) src dst (columns b₁ gain v src d c₁) (columns b₂ gain v src d c₂) (pq .hold) (below .1) (all-map (pq .kept) src agree))
+          then pq (rows-paired (v + length src) src dst (columns b₁ gain v src d c₁) (columns b₂ gain v src d c₂) (pq .room) (below .1) (all-map (pq .kept) src agree))
           (first-or-later d dst)
 
     module _ (g : Gain) (even : factor g k₁ ≡ factor g k₂) (weights : List Float) where
@@ -164,7 +164,7 @@ module _ (b₁ k₁ b₂ k₂ : ℕ) (h₁ : k₁ < b₁) (h₂ : k₂ < b₂) w
           let w = getD weights v nan in
           let p = put-more d below h (λ k. sent g w k (sample b₁ area₁ s k) (sample b₁ area₁ d k)) (λ k. sent g w k (sample b₂ area₂ s k) (sample b₂ area₂ d k))
           (λ e. sent-same k₁ k₂ g even w (agree .0) e) in
-          then p (weighs-paired (suc v) src d (sendIn b₁ g w s d area₁) (sendIn b₂ g w s d area₂) (p .hold) below (all-map (p .kept) src (agree .1))) (λ b e. inl e)
+          then p (weighs-paired (suc v) src d (sendIn b₁ g w s d area₁) (sendIn b₂ g w s d area₂) (p .room) below (all-map (p .kept) src (agree .1))) (λ b e. inl e)
 
       pub sends-paired : (v : ℕ) (src dst : List ℕ) (area₁ area₂ : List Float) → BufferRoom area₁ area₂ → All (λ d. d < m) dst → All (Agree area₁ area₂) src
           → Paired (λ b. ⊥) area₁ area₂ (sends b₁ g weights v src dst area₁) (sends b₂ g weights v src dst area₂)
@@ -172,16 +172,16 @@ module _ (b₁ k₁ b₂ k₂ : ℕ) (h₁ : k₁ < b₁) (h₂ : k₂ < b₂) w
       sends-paired v src [] area₁ area₂ h below agree = nothing h
       sends-paired v src (d ∷ dst) area₁ area₂ h below agree =
           let p = weighs-paired v src d area₁ area₂ h (below .0) agree in
-          then p (sends-paired (v + length src) src dst (weighs b₁ g weights v src d area₁) (weighs b₂ g weights v src d area₂) (p .hold) (below .1) (all-map (p .kept) src agree))
+          then p (sends-paired (v + length src) src dst (weighs b₁ g weights v src d area₁) (weighs b₂ g weights v src d area₂) (p .room) (below .1) (all-map (p .kept) src agree))
           (λ b e. inl e)
 
     pub cleared-paired : (dst : List ℕ) (area₁ area₂ : List Float) → BufferRoom area₁ area₂ → All (λ d. d < m) dst
         → Paired (λ b. has dst b ≡ true) area₁ area₂ (cleared b₁ dst area₁) (cleared b₂ dst area₂)
     unfolding cleared
-    cleared-paired [] area₁ area₂ h below = record { hold = h; kept = λ b g. g; made = λ b e. absurd (none-there b e) }
+    cleared-paired [] area₁ area₂ h below = record { room = h; kept = λ b g. g; made = λ b e. absurd (none-there b e) }
     cleared-paired (d ∷ dst) area₁ area₂ h below =
         let p = put-anew d (below .0) h (λ k. silence) (λ k. silence) refl in
-        then p (cleared-paired dst (clearBuffer b₁ d area₁) (clearBuffer b₂ d area₂) (p .hold) (below .1)) (first-or-later d dst)
+        then p (cleared-paired dst (clearBuffer b₁ d area₁) (clearBuffer b₂ d area₂) (p .room) (below .1)) (first-or-later d dst)
 
     -- a Patch of samples that are the same
     pub patch-paired : (d : ℕ) (f₁ f₂ : ℕ → Float) (area₁ area₂ : List Float) → BufferRoom area₁ area₂ → d < m → f₁ k₁ ≡ f₂ k₂

@@ -27,7 +27,7 @@ use Rattle.run.specs.Run.{State, stepped, runSteps, outputChannels}
 use Rattle.run.proofs.States.{step-lengths}
 use Rattle.run.proofs.Outputs.{channels-more, wrote-out}
 use Rattle.theorem.proofs.Agree.{All, all-at, Agree, BufferRoom, Paired, gained-paired, rows-paired, sends-paired, cleared-paired, patch-paired}
-use Rattle.theorem.proofs.Steps.{InPlan, none-of, SameNodes, even, nodes-step, hold-step}
+use Rattle.theorem.proofs.Steps.{InPlan, none-of, SameNodes, even, nodes-step, room-step}
 
 -- of each step
 abbrev pub Every : (Resolved → Type 0) → List Resolved → Type 0
@@ -122,50 +122,50 @@ module _ (count m b₁ k₁ b₂ k₂ : ℕ) (h₁ : k₁ < b₁) (h₂ : k₂ <
     patched-same : (j c d : ℕ) → d < m → BufferRoom b₁ k₁ b₂ k₂ h₁ h₂ m area₁ area₂
         → (b : ℕ) → (eqb b d || w b) ≡ true → Within (λ i. cond (eqb b d) (eqb i j) (sources b i)) L
         → Same (put b₁ d (patched b₁ (input₁ j c)) area₁) (put b₂ d (patched b₂ (input₂ j c)) area₂) b
-    patched-same j c d below hold b v u = go (eqb b d) refl v u
+    patched-same j c d below room b v u = go (eqb b d) refl v u
       where
         go : (r : Bool) → eqb b d ≡ r → (r || w b) ≡ true → Within (λ i. cond r (eqb i j) (sources b i)) L
             → Same (put b₁ d (patched b₁ (input₁ j c)) area₁) (put b₂ d (patched b₂ (input₂ j c)) area₂) b
         go true p v u =
-            patch-paired b₁ k₁ b₂ k₂ h₁ h₂ m d (patched b₁ (input₁ j c)) (patched b₂ (input₂ j c)) area₁ area₂ hold below (heard j c (u j (eq-eqb j j refl))) .made b
+            patch-paired b₁ k₁ b₂ k₂ h₁ h₂ m d (patched b₁ (input₁ j c)) (patched b₂ (input₂ j c)) area₁ area₂ room below (heard j c (u j (eq-eqb j j refl))) .made b
             (eqb-true b d p)
         go false p v u =
             put-other b₁ d _ area₁ b k₁ (eqb-false b d p) h₁ ∙ inv b v u ∙ sym (put-other b₂ d _ area₂ b k₂ (eqb-false b d p) h₂)
 
   -- ---- a step keeps it
   module _ (sources : ℕ → ℕ → Bool) (w : ℕ → Bool) (s₁ s₂ : State) (t : SameNodes count m b₁ k₁ b₂ k₂ h₁ h₂ s₁ s₂)
-      (hold : BufferRoom b₁ k₁ b₂ k₂ h₁ h₂ m (s₁ .buffers) (s₂ .buffers)) (inv : Listed sources w (s₁ .buffers) (s₂ .buffers)) where
+      (room : BufferRoom b₁ k₁ b₂ k₂ h₁ h₂ m (s₁ .buffers) (s₂ .buffers)) (inv : Listed sources w (s₁ .buffers) (s₂ .buffers)) where
     abbrev gains₁ : ℕ → ℕ → Gain
     gains₁ n i = gainOf (nodeAt (s₁ .floats) (s₁ .words) n) i
 
     step-listed : (x : Resolved) → InPlan count m x → cleanStep w x ≡ true
         → Listed (spread sources x) (writtenAfter w x) (stepped b₁ input₁ x s₁ .buffers) (stepped b₂ input₂ x s₂ .buffers)
     unfolding stepped cleanStep spread writtenAfter union all
-    step-listed (patch j c d) o e b v u = patched-same sources w (s₁ .buffers) (s₂ .buffers) inv j c d (o .1 .0) hold b v u
+    step-listed (patch j c d) o e b v u = patched-same sources w (s₁ .buffers) (s₂ .buffers) inv j c d (o .1 .0) room b v u
     step-listed (gain n src dst) o e b v u =
         let c = and-both (leb (length dst) (length src)) (all w src) e in
         subst (λ (node : Node). Same (gained b₁ (gains₁ n) 0 src dst (s₁ .buffers)) (gained b₂ (λ i. gainOf node i) 0 src dst (s₂ .buffers)) b) (t .same n (o .0 .0))
         (anew sources w (s₁ .buffers) (s₂ .buffers) inv src dst (gained b₁ (gains₁ n) 0 src dst (s₁ .buffers)) (gained b₂ (gains₁ n) 0 src dst (s₂ .buffers))
-        (λ a. gained-paired b₁ k₁ b₂ k₂ h₁ h₂ m (gains₁ n) (even count m b₁ k₁ b₂ k₂ h₁ h₂ (s₁ .floats) (s₁ .words) (t .steady) n (o .0 .0)) 0 src dst (s₁ .buffers) (s₂ .buffers) hold (o .1) a
+        (λ a. gained-paired b₁ k₁ b₂ k₂ h₁ h₂ m (gains₁ n) (even count m b₁ k₁ b₂ k₂ h₁ h₂ (s₁ .floats) (s₁ .words) (t .steady) n (o .0 .0)) 0 src dst (s₁ .buffers) (s₂ .buffers) room (o .1) a
         (leb-true (length dst) (length src) (c .0)))
         (λ b p. let q = not-used dst src (none-of dst b p) in (gained-other b₁ b k₁ h₁ _ 0 src dst (s₁ .buffers) q, gained-other b₂ b k₂ h₂ _ 0 src dst (s₂ .buffers) q))
         (c .1) b v u)
     step-listed (matrix n src dst) o e b v u =
         subst (λ (node : Node). Same (rows b₁ (gains₁ n) 0 src dst (s₁ .buffers)) (rows b₂ (λ i. gainOf node i) 0 src dst (s₂ .buffers)) b) (t .same n (o .0 .0))
         (anew sources w (s₁ .buffers) (s₂ .buffers) inv src dst (rows b₁ (gains₁ n) 0 src dst (s₁ .buffers)) (rows b₂ (gains₁ n) 0 src dst (s₂ .buffers))
-        (λ a. rows-paired b₁ k₁ b₂ k₂ h₁ h₂ m (gains₁ n) (even count m b₁ k₁ b₂ k₂ h₁ h₂ (s₁ .floats) (s₁ .words) (t .steady) n (o .0 .0)) 0 src dst (s₁ .buffers) (s₂ .buffers) hold (o .1) a)
+        (λ a. rows-paired b₁ k₁ b₂ k₂ h₁ h₂ m (gains₁ n) (even count m b₁ k₁ b₂ k₂ h₁ h₂ (s₁ .floats) (s₁ .words) (t .steady) n (o .0 .0)) 0 src dst (s₁ .buffers) (s₂ .buffers) room (o .1) a)
         (λ b p. let q = none-of dst b p in (rows-other b₁ b k₁ h₁ _ 0 src dst (s₁ .buffers) q, rows-other b₂ b k₂ h₂ _ 0 src dst (s₂ .buffers) q))
         e b v u)
     step-listed (clear dst) o e b v u =
         anew sources w (s₁ .buffers) (s₂ .buffers) inv [] dst (cleared b₁ dst (s₁ .buffers)) (cleared b₂ dst (s₂ .buffers))
-        (λ a. cleared-paired b₁ k₁ b₂ k₂ h₁ h₂ m dst (s₁ .buffers) (s₂ .buffers) hold (o .1))
+        (λ a. cleared-paired b₁ k₁ b₂ k₂ h₁ h₂ m dst (s₁ .buffers) (s₂ .buffers) room (o .1))
         (λ b p. let q = none-of dst b p in (cleared-other b₁ b k₁ h₁ dst (s₁ .buffers) q, cleared-other b₂ b k₂ h₂ dst (s₂ .buffers) q))
         refl b v u
     step-listed (send n src dst weights) o e b v u =
         let c = and-both (all w src) (all w dst) e in
         subst (λ (node : Node). Same (sends b₁ (gains₁ n 0) weights 0 src dst (s₁ .buffers)) (sends b₂ (gainOf node 0) weights 0 src dst (s₂ .buffers)) b) (t .same n (o .0 .0))
         (more sources w (s₁ .buffers) (s₂ .buffers) inv src dst (sends b₁ (gains₁ n 0) weights 0 src dst (s₁ .buffers)) (sends b₂ (gains₁ n 0) weights 0 src dst (s₂ .buffers))
-        (λ a. sends-paired b₁ k₁ b₂ k₂ h₁ h₂ m (gains₁ n 0) (even count m b₁ k₁ b₂ k₂ h₁ h₂ (s₁ .floats) (s₁ .words) (t .steady) n (o .0 .0) 0) weights 0 src dst (s₁ .buffers) (s₂ .buffers) hold (o .1) a)
+        (λ a. sends-paired b₁ k₁ b₂ k₂ h₁ h₂ m (gains₁ n 0) (even count m b₁ k₁ b₂ k₂ h₁ h₂ (s₁ .floats) (s₁ .words) (t .steady) n (o .0 .0) 0) weights 0 src dst (s₁ .buffers) (s₂ .buffers) room (o .1) a)
         (λ b p. let q = none-of dst b p in (sends-other b₁ b k₁ h₁ _ weights 0 src dst (s₁ .buffers) q, sends-other b₂ b k₂ h₂ _ weights 0 src dst (s₂ .buffers) q))
         (c .0) b v u)
     step-listed (output src slot) o e b v u = inv b v u
@@ -175,7 +175,7 @@ module _ (count m b₁ k₁ b₂ k₂ : ℕ) (h₁ : k₁ < b₁) (h₂ : k₂ <
     -- what is still to be said where q blocks are written
     pub record Going (sources : ℕ → ℕ → Bool) (w : ℕ → Bool) (xs : List Resolved) (q : ℕ) (s₁ s₂ : State) : Type 0 where
       pub nodes : SameNodes count m b₁ k₁ b₂ k₂ h₁ h₂ s₁ s₂
-      pub hold : BufferRoom b₁ k₁ b₂ k₂ h₁ h₂ m (s₁ .buffers) (s₂ .buffers)
+      pub room : BufferRoom b₁ k₁ b₂ k₂ h₁ h₂ m (s₁ .buffers) (s₂ .buffers)
       pub listed : Listed sources w (s₁ .buffers) (s₂ .buffers)
       pub clean : cleanFrom w xs ≡ true
       pub within : Within (behind s sources xs) L
@@ -194,8 +194,8 @@ module _ (count m b₁ k₁ b₂ k₂ : ℕ) (h₁ : k₁ < b₁) (h₂ : k₂ <
         let n : q + channelsOut x + outputChannels xs ≡ q + outputChannels (x ∷ xs) = rw (channels-more x xs) (omega arith) in
         record {
           nodes = nodes-step count m b₁ k₁ b₂ k₂ h₁ h₂ input₁ input₂ s₁ s₂ (g .nodes) x (g .in-plan .0);
-          hold = hold-step count m b₁ k₁ b₂ k₂ h₁ h₂ input₁ input₂ s₁ s₂ (g .nodes) x (g .hold);
-          listed = step-listed sources w s₁ s₂ (g .nodes) (g .hold) (g .listed) x (g .in-plan .0) (e .0);
+          room = room-step count m b₁ k₁ b₂ k₂ h₁ h₂ input₁ input₂ s₁ s₂ (g .nodes) x (g .room);
+          listed = step-listed sources w s₁ s₂ (g .nodes) (g .room) (g .listed) x (g .in-plan .0) (e .0);
           clean = e .1;
           within = λ i p. g .within i (or-right (joins s sources x i) (behind s (spread sources x) xs i) p);
           in-plan = g .in-plan .1;

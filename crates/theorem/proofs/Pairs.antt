@@ -111,7 +111,7 @@ module _ (f₁ f₂ : Fixed) (same : SamePlan f₁ f₂) (clean : cleanFrom none
             same = λ n h. node₁ n h ∙ ap (λ (ns : List Node). getD ns n nobody) nodes-same ∙ sym (node₂ n h);
             steady = calm steady;
           };
-          hold = record { first = r₁ .fits .buffers; second = subst (λ (m : ℕ). m * b ≤ length (s₂ .buffers)) (same .buffers) (r₂ .fits .buffers) };
+          room = record { first = r₁ .fits .buffers; second = subst (λ (m : ℕ). m * b ≤ length (s₂ .buffers)) (same .buffers) (r₂ .fits .buffers) };
           listed = λ d w u. absurd (false≢true w);
           clean = rw (← ch .split) clean;
           within = rw (← ch .split) within;

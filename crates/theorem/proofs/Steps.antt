@@ -136,7 +136,7 @@ module _ (count m b₁ k₁ b₂ k₂ : ℕ) (h₁ : k₁ < b₁) (h₂ : k₂ <
           steady = e .1;
         }
 
-    pub hold-step : (x : Resolved) → BufferRoom b₁ k₁ b₂ k₂ h₁ h₂ m (s₁ .buffers) (s₂ .buffers)
+    pub room-step : (x : Resolved) → BufferRoom b₁ k₁ b₂ k₂ h₁ h₂ m (s₁ .buffers) (s₂ .buffers)
         → BufferRoom b₁ k₁ b₂ k₂ h₁ h₂ m (stepped b₁ input₁ x s₁ .buffers) (stepped b₂ input₂ x s₂ .buffers)
-    hold-step x h =
+    room-step x h =
         record { first = rw (step-lengths b₁ input₁ x s₁ .buffers) (h .first); second = rw (step-lengths b₂ input₂ x s₂ .buffers) (h .second) }
