@@ -1,9 +1,8 @@
 -- What a step names: its input, its node and its slot are inside their tables where the check says so, and its slot and its channels are those that its fields
--- have, whatever the record and the coefficients. Assumes nothing.
+-- have, whatever the record and the coefficients. What goes by no weight is the same whatever the coefficients. Assumes nothing.
 use mathlib.Core.Path.{_≡_, refl}
 use mathlib.Core.List.{List}
-use Prim.Native.Nat.{ℕ, _≤_}
-use native.Mathlib.Omega.{arith}
+use Prim.Native.Nat.{ℕ}
 use lib.Ieee.{Float}
 use Rattle.lists.specs.Entries.{AllBelow}
 use Rattle.plan.specs.declared.Plan.{Plan}
@@ -13,7 +12,7 @@ use Rattle.plan.specs.declared.Step.the-variants.{Patch, Gain, Matrix, C
 use Rattle.plan.specs.Limits.{inputs, slots}
 use Rattle.plan.specs.Sound.{InsideBy, Inside, Placed}
 use Rattle.plan.specs.Loops.{slotOf, channels}
-use Rattle.plan.specs.Resolved.{resolved, inputNamed, nodeNamed, channelsOut, slotNamed}
+use Rattle.plan.specs.Resolved.{Resolved, send, resolved, inputNamed, nodeNamed, channelsOut, slotNamed}
 use Rattle.plan.proofs.Spans.{length-named}
 
 module _ (p : Plan) (indices : List ℕ) (coefficients : List Float) where
@@ -34,13 +33,13 @@ module _ (p : Plan) (indices : List ℕ) (coefficients : List Float) where
   node-inside Index Weights (Send n s d c) h = (h .0, tt)
   node-inside Index Weights (Output s o) h = tt
 
-  pub slot-inside : (x : Step) → Inside p x → slotNamed (resolved p indices coefficients x) ≤ slots
-  slot-inside (Patch i c d) h = omega arith
-  slot-inside (Gain n s d) h = omega arith
-  slot-inside (Matrix n s d) h = omega arith
-  slot-inside (Clear d) h = omega arith
-  slot-inside (Send n s d c) h = omega arith
-  slot-inside (Output s o) h = omega (arith, h .1)
+  pub slot-inside : (x : Step) → Inside p x → AllBelow slots (slotNamed (resolved p indices coefficients x))
+  slot-inside (Patch i c d) h = tt
+  slot-inside (Gain n s d) h = tt
+  slot-inside (Matrix n s d) h = tt
+  slot-inside (Clear d) h = tt
+  slot-inside (Send n s d c) h = tt
+  slot-inside (Output s o) h = (h .1, tt)
 
   pub slot-named : (x : Step) → slotNamed (resolved p indices coefficients x) ≡ slotOf x
   slot-named (Patch i c d) = refl
@@ -57,3 +56,13 @@ module _ (p : Plan) (indices : List ℕ) (coefficients : List Float) where
   channels-named (Clear d) h = refl
   channels-named (Send n s d c) h = refl
   channels-named (Output s o) h = length-named indices s (h .0 .within)
+
+-- what is said of a step and goes by no weight is the same whatever the coefficients
+pub weights-idle : (p : Plan) (indices : List ℕ) (us vs : List Float) {A : Type 0} (f : Resolved → A)
+    → ((n : ℕ) (src dst : List ℕ) (a b : List Float) → f (send n src dst a) ≡ f (send n src dst b)) → (x : Step) → f (resolved p indices us x) ≡ f (resolved p indices vs x)
+weights-idle p indices us vs f e (Patch i c d) = refl
+weights-idle p indices us vs f e (Gain n s d) = refl
+weights-idle p indices us vs f e (Matrix n s d) = refl
+weights-idle p indices us vs f e (Clear d) = refl
+weights-idle p indices us vs f e (Send n s d c) = e n _ _ _ _
+weights-idle p indices us vs f e (Output s o) = refl

@@ -1,5 +1,5 @@
 -- What the loops of the check go by, and what it counts. Definitions only.
-use Prim.Native.Nat.{ℕ, suc, _+_, _*_, _<_}
+use Prim.Native.Nat.{ℕ, _+_, _*_, _<_}
 use mathlib.Core.Bool.{Bool}
 use mathlib.Core.List.{List, [], _∷_}
 use lib.Dec.{leb}
@@ -20,14 +20,14 @@ Ascending each n list = (i j : ℕ) → i < j → j < n → getD list (i * each)
 abbrev pub spanBefore : Span → Span → Bool
 spanBefore s d = leb (s .start + s .len) (d .start)
 
--- how many slots there are up to the one that a step names
-abbrev pub slotOf : Step → ℕ
-slotOf (Patch i c d) = 0
-slotOf (Gain n s d) = 0
-slotOf (Matrix n s d) = 0
-slotOf (Clear d) = 0
-slotOf (Send n s d c) = 0
-slotOf (Output s o) = suc o
+-- the slot that a step names, if any
+abbrev pub slotOf : Step → List ℕ
+slotOf (Patch i c d) = []
+slotOf (Gain n s d) = []
+slotOf (Matrix n s d) = []
+slotOf (Clear d) = []
+slotOf (Send n s d c) = []
+slotOf (Output s o) = o ∷ []
 
 -- the channels that a step appends to the output, and that steps do
 abbrev pub channels : Step → ℕ

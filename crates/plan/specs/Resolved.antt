@@ -1,6 +1,6 @@
 -- A step with its spans resolved to the buffers and the weights that they name: what a run, a trace and the clean answer go over.
 -- Definitions only.
-use Prim.Native.Nat.{ℕ, suc}
+use Prim.Native.Nat.{ℕ}
 use mathlib.Core.List.{List, [], _∷_, map}
 use lib.ListN.{length}
 use lib.Ieee.{Float}
@@ -62,14 +62,23 @@ channelsOut (clear dst) = 0
 channelsOut (send n src dst weights) = 0
 channelsOut (output src slot) = length src
 
--- how many slots there are up to the one that it names
-abbrev pub slotNamed : Resolved → ℕ
-slotNamed (patch i c d) = 0
-slotNamed (gain n src dst) = 0
-slotNamed (matrix n src dst) = 0
-slotNamed (clear dst) = 0
-slotNamed (send n src dst weights) = 0
-slotNamed (output src slot) = suc slot
+-- the slot that it names, if any
+abbrev pub slotNamed : Resolved → List ℕ
+slotNamed (patch i c d) = []
+slotNamed (gain n src dst) = []
+slotNamed (matrix n src dst) = []
+slotNamed (clear dst) = []
+slotNamed (send n src dst weights) = []
+slotNamed (output src slot) = slot ∷ []
+
+-- the buffers of its src
+abbrev pub srcOf : Resolved → List ℕ
+srcOf (patch i c d) = []
+srcOf (gain n src dst) = src
+srcOf (matrix n src dst) = src
+srcOf (clear dst) = []
+srcOf (send n src dst weights) = src
+srcOf (output src slot) = src
 
 -- the buffers of its dst
 abbrev pub dstOf : Resolved → List ℕ

@@ -207,11 +207,12 @@ module _ (count m b₁ k₁ b₂ k₂ : ℕ) (h₁ : k₁ < b₁) (h₂ : k₂ <
 
     -- the Output's own sources have the same sample
     own-same : (sources : ℕ → ℕ → Bool) (w : ℕ → Bool) (q : ℕ) (s₁ s₂ : State) → Going sources w (output src s ∷ after) q s₁ s₂ → All (Same (s₁ .buffers) (s₂ .buffers)) src
-    unfolding cleanFrom cleanStep behind joins
+    unfolding cleanFrom cleanStep behind joins has
     own-same sources w q s₁ s₂ g =
         all-same sources w (s₁ .buffers) (s₂ .buffers) (g .listed) src (and-both (all w src) (cleanFrom (writtenAfter w (output src s)) after) (g .clean) .0)
         (λ i p. g .within i
-        (or-left (eqb s s && union sources src i) (behind s (spread sources (output src s)) after i) (and-intro (eqb s s) (union sources src i) (eq-eqb s s refl) p)))
+        (or-left (has (s ∷ []) s && union sources src i) (behind s (spread sources (output src s)) after i)
+        (and-intro (has (s ∷ []) s) (union sources src i) (or-left (eqb s s) false (eq-eqb s s refl)) p)))
 
     pub same-sample : (before : List Resolved) (sources : ℕ → ℕ → Bool) (w : ℕ → Bool) (q : ℕ) (s₁ s₂ : State) → Going sources w (before ++ output src s ∷ after) q s₁ s₂
         → sample b₁ (runSteps b₁ input₁ (before ++ output src s ∷ after) s₁ .output) (q + (outputChannels before + c)) k₁

@@ -14,42 +14,43 @@ use Rattle.sets.specs.Sets.{sift}
 use Rattle.sets.proofs.Sift.{sift-same, sift-entry, sift-ascends, sift-lists}
 use Rattle.plan.specs.declared.Plan.{Plan}
 use Rattle.plan.specs.declared.Step.{Step}
-use Rattle.plan.specs.declared.Step.the-variants.{Patch, Gain, Matrix, Clear, Send, Output}
 use Rattle.plan.specs.Limits.{inputs, slots}
 use Rattle.plan.specs.Sound.{Inside, Each, stepsOf, Sound}
-use Rattle.plan.specs.Resolved.{Resolved, patch, gain, matrix, clear, send, output, resolved, resolvedSteps, inputNamed}
-use Rattle.plan.proofs.Named.{input-inside, slot-inside, slot-named}
-use Rattle.trace.specs.Sources.{noSources, union, spread, joins, behind, sourceList, slotCount}
+use Rattle.plan.specs.Resolved.{Resolved, patch, gain, matrix, clear, send, output, resolved, resolvedSteps, inputNamed, slotNamed, srcOf}
+use Rattle.plan.proofs.Named.{input-inside, slot-inside, weights-idle}
+use Rattle.trace.specs.Sources.{noSources, union, spread, joins, behind, sourceList, slotsTo, slotCount}
 use Rattle.trace.specs.Clean.{noneWritten, writtenAfter, cleanStep, cleanFrom, clean}
 use Rattle.trace.specs.Calls.{tracedSteps}
 
 -- ---- no coefficient is read
 module _ (p : Plan) (indices : List ℕ) (xs ys : List Float) where
+  idle : {A : Type 0} (f : Resolved → A) → ((n : ℕ) (src dst : List ℕ) (u v : List Float) → f (send n src dst u) ≡ f (send n src dst v)) → (x : Step)
+      → f (resolved p indices xs x) ≡ f (resolved p indices ys x)
+  idle = weights-idle p indices xs ys
+
   behind-alike : (s : ℕ) (sources : ℕ → ℕ → Bool) (ss : List Step) (i : ℕ)
       → behind s sources (map (resolved p indices xs) ss) i ≡ behind s sources (map (resolved p indices ys) ss) i
   unfolding behind spread joins
   behind-alike s sources [] i = refl
-  behind-alike s sources (Patch n c d ∷ ss) i = behind-alike s _ ss i
-  behind-alike s sources (Gain n a d ∷ ss) i = behind-alike s _ ss i
-  behind-alike s sources (Matrix n a d ∷ ss) i = behind-alike s _ ss i
-  behind-alike s sources (Clear d ∷ ss) i = behind-alike s _ ss i
-  behind-alike s sources (Send n a d c ∷ ss) i = behind-alike s _ ss i
-  behind-alike s sources (Output a o ∷ ss) i = ap (λ (b : Bool). joins s sources (resolved p indices xs (Output a o)) i || b) (behind-alike s _ ss i)
+  behind-alike s sources (x ∷ ss) i =
+      let rest = map (resolved p indices xs) ss in
+      ap (λ (b : Bool). b || behind s (spread sources (resolved p indices xs x)) rest i) (idle (λ (y : Resolved). joins s sources y i) (λ n a d u v. refl) x)
+      ∙ ap (λ (f : ℕ → ℕ → Bool). joins s sources (resolved p indices ys x) i || behind s f rest i) (idle (spread sources) (λ n a d u v. refl) x)
+      ∙ ap (λ (b : Bool). joins s sources (resolved p indices ys x) i || b) (behind-alike s (spread sources (resolved p indices ys x)) ss i)
 
   count-alike : (ss : List Step) → slotCount (map (resolved p indices xs) ss) ≡ slotCount (map (resolved p indices ys) ss)
   unfolding slotCount
   count-alike [] = refl
-  count-alike (x ∷ ss) = rw (slot-named p indices xs x, slot-named p indices ys x, count-alike ss)
+  count-alike (x ∷ ss) = rw (idle slotNamed (λ n a d u v. refl) x, count-alike ss)
 
   clean-alike : (w : ℕ → Bool) (ss : List Step) → cleanFrom w (map (resolved p indices xs) ss) ≡ cleanFrom w (map (resolved p indices ys) ss)
   unfolding cleanFrom cleanStep writtenAfter
   clean-alike w [] = refl
-  clean-alike w (Patch n c d ∷ ss) = clean-alike _ ss
-  clean-alike w (Gain n a d ∷ ss) = ap (λ (b : Bool). cleanStep w (resolved p indices xs (Gain n a d)) && b) (clean-alike _ ss)
-  clean-alike w (Matrix n a d ∷ ss) = ap (λ (b : Bool). cleanStep w (resolved p indices xs (Matrix n a d)) && b) (clean-alike _ ss)
-  clean-alike w (Clear d ∷ ss) = clean-alike _ ss
-  clean-alike w (Send n a d c ∷ ss) = ap (λ (b : Bool). cleanStep w (resolved p indices xs (Send n a d c)) && b) (clean-alike _ ss)
-  clean-alike w (Output a o ∷ ss) = ap (λ (b : Bool). cleanStep w (resolved p indices xs (Output a o)) && b) (clean-alike _ ss)
+  clean-alike w (x ∷ ss) =
+      let rest = map (resolved p indices xs) ss in
+      ap (λ (b : Bool). b && cleanFrom (writtenAfter w (resolved p indices xs x)) rest) (idle (cleanStep w) (λ n a d u v. refl) x)
+      ∙ ap (λ (f : ℕ → Bool). cleanStep w (resolved p indices ys x) && cleanFrom f rest) (idle (writtenAfter w) (λ n a d u v. refl) x)
+      ∙ ap (λ (b : Bool). cleanStep w (resolved p indices ys x) && b) (clean-alike (writtenAfter w (resolved p indices ys x)) ss)
 
 -- so the trace, which is lent none, goes over the steps that a run goes over
 module _ (p : Plan) (indices : List ℕ) (xs : List Float) (steps : List ℕ) where
@@ -81,10 +82,15 @@ inside-known p indices xs [] e = tt
 inside-known p indices xs (x ∷ ss) e = (input-inside p indices xs x (e .0), inside-known p indices xs ss (e .1))
 
 -- and every slot of an Output below 32, and so at most 32 slots
+slots-below : (n : ℕ) (ss : List ℕ) → AllBelow n ss → slotsTo ss ≤ n
+slots-below n [] h = omega arith
+slots-below n (s ∷ ss) h = omega (arith, h .0, slots-below n ss (h .1))
+
 pub inside-slots : (p : Plan) (indices : List ℕ) (xs : List Float) (ss : List Step) → Each (Inside p) ss → slotCount (map (resolved p indices xs) ss) ≤ slots
 unfolding slotCount
 inside-slots p indices xs [] e = omega arith
-inside-slots p indices xs (x ∷ ss) e = omega (arith, slot-inside p indices xs x (e .0), inside-slots p indices xs ss (e .1))
+inside-slots p indices xs (x ∷ ss) e =
+    omega (arith, slots-below slots (slotNamed (resolved p indices xs x)) (slot-inside p indices xs x (e .0)), inside-slots p indices xs ss (e .1))
 
 pub sound-known : {p : Plan} {short : Bool} {indices words steps : List ℕ} (xs : List Float) → Sound p short indices words steps
     → Known (resolvedSteps p indices xs steps)
@@ -121,14 +127,9 @@ spread-low sources (output a o) l k b j = l b j
 
 joins-low : (s : ℕ) (sources : ℕ → ℕ → Bool) (x : Resolved) → Low sources → (i : ℕ) → joins s sources x i ≡ true → i < inputs
 unfolding joins
-joins-low s sources (patch n c d) l i e = absurd (false≢true e)
-joins-low s sources (gain n a d) l i e = absurd (false≢true e)
-joins-low s sources (matrix n a d) l i e = absurd (false≢true e)
-joins-low s sources (clear d) l i e = absurd (false≢true e)
-joins-low s sources (send n a d w) l i e = absurd (false≢true e)
-joins-low s sources (output a o) l i e = union-low sources l a i (and-right (eqb o s) e)
+joins-low s sources x l i e = union-low sources l (srcOf x) i (and-right (has (slotNamed x) s) e)
   where
-    and-right : (t : Bool) → (t && union sources a i) ≡ true → union sources a i ≡ true
+    and-right : (t : Bool) → (t && union sources (srcOf x) i) ≡ true → union sources (srcOf x) i ≡ true
     and-right true q = q
     and-right false q = absurd (false≢true q)
 

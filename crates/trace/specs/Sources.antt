@@ -1,13 +1,13 @@
 -- Document 01's source sets: the inputs behind each buffer and behind each slot. A set is a test here, whether input i is in it; a plan's sets
 -- are a test of a buffer and an input. Definitions only.
-use Prim.Native.Nat.{ℕ, max}
+use Prim.Native.Nat.{ℕ, suc, max}
 use mathlib.Core.Bool.{Bool, false, _&&_, _||_, cond}
 use mathlib.Core.List.{List, [], _∷_}
 use lib.Dec.{eqb}
 use Rattle.lists.specs.Entries.{has}
 use Rattle.sets.specs.Sets.{sift}
 use Rattle.plan.specs.Limits.{inputs}
-use Rattle.plan.specs.Resolved.{Resolved, patch, gain, matrix, clear, send, output, slotNamed}
+use Rattle.plan.specs.Resolved.{Resolved, patch, gain, matrix, clear, send, output, slotNamed, srcOf}
 
 -- before the first step no buffer has an input
 abbrev pub noSources : ℕ → ℕ → Bool
@@ -30,13 +30,7 @@ spread sources (output src slot) b i = sources b i
 
 -- "Output joins into its slot": what a step adds to slot s
 unfoldable pub joins : ℕ → (ℕ → ℕ → Bool) → Resolved → ℕ → Bool
-unfolding union
-joins s sources (patch input channel dst) i = false
-joins s sources (gain node src dst) i = false
-joins s sources (matrix node src dst) i = false
-joins s sources (clear dst) i = false
-joins s sources (send node src dst weights) i = false
-joins s sources (output src slot) i = eqb slot s && union sources src i
+joins s sources x i = has (slotNamed x) s && union sources (srcOf x) i
 
 -- the inputs behind slot s after a list of steps that starts from given sets
 unfoldable pub behind : ℕ → (ℕ → ℕ → Bool) → List Resolved → ℕ → Bool
@@ -49,7 +43,11 @@ unfoldable pub sourceList : ℕ → List Resolved → List ℕ
 unfolding behind
 sourceList s steps = sift (behind s noSources steps) 0 inputs
 
--- "Slots run to the highest one named": how many there are, none where no Output is
+-- "Slots run to the highest one named": how many there are up to the highest of a list, and of what steps name, none where no Output is
+abbrev pub slotsTo : List ℕ → ℕ
+slotsTo [] = 0
+slotsTo (s ∷ ss) = max (suc s) (slotsTo ss)
+
 unfoldable pub slotCount : List Resolved → ℕ
 slotCount [] = 0
-slotCount (x ∷ xs) = max (slotNamed x) (slotCount xs)
+slotCount (x ∷ xs) = max (slotsTo (slotNamed x)) (slotCount xs)

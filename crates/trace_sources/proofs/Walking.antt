@@ -10,6 +10,7 @@ use lib.Dec.{eqb}
 use lib.ListN.{length}
 use denote.Enum.Declared.{tagOf}
 use types.Run.{OneOf}
+use Rattle.lists.specs.Entries.{has}
 use Rattle.lists.proofs.Bools.{eqb-swap}
 use Rattle.sets.specs.declared.Set.{Set}
 use Rattle.sets.specs.Sets.{member}
@@ -21,7 +22,8 @@ use Rattle.plan.specs.declared.Read.the-variants.{Found, Bad}
 use Rattle.plan.specs.Words.{readAt, decodedFrom, decoded}
 use Rattle.plan.specs.Check.{named}
 use Rattle.plan.specs.Sound.{Names, Passes, Tested}
-use Rattle.plan.specs.Resolved.{resolved}
+use Rattle.plan.specs.Resolved.{resolved, srcOf}
+use Rattle.plan.specs.Loops.{slotOf}
 use Rattle.plan.proofs.Answers.{rest-of}
 use Rattle.plan.proofs.Words.{decoded-on, decoded-bad, decoded-none}
 use Rattle.plan.proofs.Accepted.{pass-placed, pass-rest}
@@ -36,23 +38,26 @@ no-output {x} h a o e =
     ⊎-elim (λ q. omega arith) (⊎-elim (λ q. omega arith) (⊎-elim (λ q. omega arith) (⊎-elim (λ q. omega arith) (λ q. omega arith))))
     (subst (λ (y : Step). OneOf (0 ∷ 1 ∷ 2 ∷ 3 ∷ 4 ∷ []) (tagOf the-type y)) e h)
 
+no-slot : (x : Step) → ((a : Span) (o : ℕ) → x ≡ Output a o → ⊥) → slotOf x ≡ []
+no-slot (Patch n c d) h = refl
+no-slot (Gain n a d) h = refl
+no-slot (Matrix n a d) h = refl
+no-slot (Clear d) h = refl
+no-slot (Send n a d c) h = refl
+no-slot (Output a o) h = absurd (h a o refl)
+
 module _ (p : Plan) (indices : List ℕ) (s : ℕ) (sources : ℕ → ℕ → Bool) where
   pub joins-none : (x : Step) → ((a : Span) (o : ℕ) → x ≡ Output a o → ⊥) → (i : ℕ) → joins s sources (resolved p indices [] x) i ≡ false
-  unfolding joins
-  joins-none (Patch n c d) h i = refl
-  joins-none (Gain n a d) h i = refl
-  joins-none (Matrix n a d) h i = refl
-  joins-none (Clear d) h i = refl
-  joins-none (Send n a d c) h i = refl
-  joins-none (Output a o) h i = absurd (h a o refl)
+  unfolding joins has
+  joins-none x h i = ap (λ (l : List ℕ). has l s && union sources (srcOf (resolved p indices [] x)) i) (slot-named p indices [] x ∙ no-slot x h)
 
   -- what a store of the slot's own set with that of src leaves
   pub joins-stored : {x : Step} (a : Span) (o : ℕ) → x ≡ Output a o → (more : Set) → ((i : ℕ) → member more i ≡ union sources (named indices a) i)
       → (i : ℕ) (own : Bool) → cond (eqb s o) (joined more i own) own ≡ (own || joins s sources (resolved p indices [] x) i)
-  unfolding joins
+  unfolding joins has
   joins-stored a o e more m i own =
       go (eqb s o)
-      ∙ ap (λ (t : Bool). own || (t && union sources (named indices a) i)) (eqb-swap s o)
+      ∙ ap (λ (t : Bool). own || (t && union sources (named indices a) i)) (eqb-swap s o ∙ sym (or-false (eqb o s)))
       ∙ ap (λ (y : Step). own || joins s sources (resolved p indices [] y) i) (sym e)
     where
       go : (t : Bool) → cond t (joined more i own) own ≡ (own || (t && union sources (named indices a) i))
@@ -85,12 +90,7 @@ module _ (p : Plan) (indices : List ℕ) where
   none n = omega arith
 
 pub slot-none : (n : ℕ) (x : Step) → ((a : Span) (o : ℕ) → x ≡ Output a o → ⊥) → withSlot n x ≡ n
-slot-none n (Patch i c d) h = omega arith
-slot-none n (Gain k a d) h = omega arith
-slot-none n (Matrix k a d) h = omega arith
-slot-none n (Clear d) h = omega arith
-slot-none n (Send k a d c) h = omega arith
-slot-none n (Output a o) h = absurd (h a o refl)
+slot-none n x h = rw (no-slot x h) (omega arith)
 
 module _ (n : ℕ) {x : Step} (a : Span) (o : ℕ) (e : x ≡ Output a o) where
   pub slot-low : o < n → n ≡ withSlot n x

@@ -14,6 +14,7 @@ use Rattle.plan.specs.declared.Step.{Step}
 use Rattle.plan.specs.Limits.{slots, unitLimits}
 use Rattle.plan.specs.Sound.{Names, Placed}
 use Rattle.plan.specs.Loops.{slotOf}
+use Rattle.trace.specs.Sources.{slotsTo}
 
 -- ---- the areas: the words of a set for each buffer that a plan can have, and for each slot
 
@@ -66,4 +67,4 @@ pub record Spans (p : Plan) (indices area : List ℕ) (src dst : Span) : Type 0 
 
 -- ---- the count of slots where step x comes to those before it
 abbrev pub withSlot : ℕ → Step → ℕ
-withSlot n x = max (slotOf x) n
+withSlot n x = max (slotsTo (slotOf x)) n
