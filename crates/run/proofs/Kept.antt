@@ -17,6 +17,7 @@ use Rattle.input.specs.Input.{lookup}
 use Rattle.run.specs.Run.{RunGiven, State, stepped, runSteps, stepsOfRun, admission, processed}
 use Rattle.run.proofs.Answers.{accepted-runs, refused-keeps}
 use Rattle.run.proofs.States.{SameLengths, run-lengths}
+use Rattle.run.proofs.Outputs.{wrote-out}
 
 -- the buffers that a step writes
 abbrev pub dstUsed : Resolved → List ℕ
@@ -51,13 +52,7 @@ module _ (block : ℕ) (input : ℕ → ℕ → List Float) where
 
   -- ---- place i of the output, past what is written
   step-grows : (x : Resolved) (s : State) → s .wrote ≤ stepped block input x s .wrote
-  unfolding stepped
-  step-grows (patch i c d) s = omega arith
-  step-grows (gain n src dst) s = omega arith
-  step-grows (matrix n src dst) s = omega arith
-  step-grows (clear dst) s = omega arith
-  step-grows (send n src dst weights) s = omega arith
-  step-grows (output src slot) s = omega arith
+  step-grows x s = omega (arith, wrote-out block input x s)
 
   steps-grow : (xs : List Resolved) (s : State) → s .wrote ≤ runSteps block input xs s .wrote
   unfolding runSteps

@@ -25,9 +25,10 @@ use Rattle.plan.specs.declared.Span.{Span}
 use Rattle.plan.specs.declared.Step.{Step}
 use Rattle.plan.specs.declared.Step.the-variants.{Patch, Gain, Matrix, Clear, Send, Output}
 use Rattle.plan.specs.Check.{named}
-use Rattle.plan.specs.Resolved.{Resolved, resolved}
-use Rattle.plan.specs.Sound.{Each, stepsOf, Names, Placed}
+use Rattle.plan.specs.Resolved.{Resolved, resolved, dstOf}
+use Rattle.plan.specs.Sound.{Each, stepsOf, Within, Names, Placed}
 use Rattle.plan.proofs.Spans.{names-length, names-below}
+use Rattle.plan.proofs.Named.{node-inside}
 use Rattle.input.specs.Input.{lookup}
 use Rattle.run.specs.Run.{RunGiven, State, runSteps, outputChannels, processed}
 use Rattle.run.specs.Calls.{Fixed, Changing, leftBy, Call, set, run, givenTo, start, answer, after, stepsOfPlan}
@@ -52,13 +53,16 @@ module _ (p : Plan) (indices : List ℕ) (coefficients : List Float) where
   span-all : (s : Span) → Names p indices s → All (λ d. d < p .buffers) (named indices s)
   span-all s h = all-below (p .buffers) (named indices s) (λ i k. names-below p indices s h i (rw (names-length p indices s h) at k))
 
+  dst-below : (x : Step) → Placed p indices x → All (λ d. d < p .buffers) (dstOf (resolved p indices coefficients x))
+  dst-below (Patch i c d) o = (o .1, tt)
+  dst-below (Gain n s d) o = span-all d (o .2)
+  dst-below (Matrix n s d) o = span-all d (o .2)
+  dst-below (Clear d) o = span-all d o
+  dst-below (Send n s d c) o = span-all d (o .2)
+  dst-below (Output s o′) o = tt
+
   in-plan : (x : Step) → Placed p indices x → InPlan (p .nodes) (p .buffers) (resolved p indices coefficients x)
-  in-plan (Patch i c d) o = (tt, (o .1, tt))
-  in-plan (Gain n s d) o = ((o .0, tt), span-all d (o .2))
-  in-plan (Matrix n s d) o = ((o .0, tt), span-all d (o .2))
-  in-plan (Clear d) o = (tt, span-all d o)
-  in-plan (Send n s d c) o = ((o .0, tt), span-all d (o .2))
-  in-plan (Output s o′) o = (tt, tt)
+  in-plan x o = (node-inside p indices coefficients (Names p indices) (Within (p .coefficients)) x o, dst-below x o)
 
   all-in-plan : (ss : List Step) → Each (Placed p indices) ss → Every (InPlan (p .nodes) (p .buffers)) (map (resolved p indices coefficients) ss)
   all-in-plan [] o = tt
