@@ -10,7 +10,7 @@ use lib.Seq.{take-add}
 use Rattle.refusal.specs.declared.Answer.the-variants.{Accepted}
 use Rattle.refusal.proofs.Laws.{accepted-none, none-accepted}
 use Rattle.plan.specs.declared.Plan.{Plan}
-use Rattle.plan.specs.PlanRecord.{planWith}
+use Rattle.plan.specs.PlanRecord.{longer}
 use Rattle.plan.specs.Words.{decoded, decodedFrom}
 use Rattle.plan.specs.Check.{planTests, checked}
 use Rattle.plan.specs.Sound.{stepsOf}
@@ -18,10 +18,6 @@ use Rattle.plan.proofs.Parts.{steps-append}
 use Rattle.plan.proofs.Passes.{All}
 use Rattle.plan.proofs.Exact.{accepted-all}
 use Rattle.plan.proofs.Grown.{Grew, grown-none}
-
--- a plan that counts m words more
-abbrev pub longer : ℕ → Plan → Plan
-longer m p = planWith (p .block) (p .buffers) (p .indices) (p .coefficients) (p .nodes) (p .steps) (p .words + m)
 
 grew-longer : (m : ℕ) (p : Plan) → Grew p (longer m p)
 grew-longer m p = record { buffers = omega arith; indices = omega arith; coefficients = omega arith; nodes = omega arith }

@@ -1,5 +1,5 @@
--- The record of a plan, which is written out here alone. Definitions only.
-use Prim.Native.Nat.{ℕ}
+-- The record of a plan, which the definitions write out here alone. Definitions only.
+use Prim.Native.Nat.{ℕ, _+_}
 use Rattle.plan.specs.declared.Plan.{Plan}
 
 abbrev pub planWith : (block buffers indices coefficients nodes steps words : ℕ) → Plan
@@ -17,3 +17,7 @@ planWith block buffers indices coefficients nodes steps words =
 -- the same plan for blocks of n samples
 abbrev pub withBlock : Plan → ℕ → Plan
 withBlock p n = planWith n (p .buffers) (p .indices) (p .coefficients) (p .nodes) (p .steps) (p .words)
+
+-- a plan that counts m words more
+abbrev pub longer : ℕ → Plan → Plan
+longer m p = planWith (p .block) (p .buffers) (p .indices) (p .coefficients) (p .nodes) (p .steps) (p .words + m)
