@@ -17,18 +17,17 @@ use Rattle.plan.specs.declared.Read.{Read}
 use Rattle.plan.specs.declared.Read.the-variants.{Found, Bad}
 use Rattle.plan.specs.Words.{patchMap, gainMap, matrixMap, clearMap, sendMap, outputMap, fields, field, stepOf, readAt, StepKind, kinds, mapOf, fieldsIn, stepAmong}
 use Rattle.plan.specs.Records.{word, patchAt, gainAt, matrixAt, clearAt, sendAt, outputAt}
-use Rattle.plan.proofs.Words.{patch-fields, gain-fields, matrix-fields, clear-fields, send-fields, output-fields, read-past, read-cut, read-unnamed, read-patch, read-gain, read-matrix, read-clear, read-send, read-output}
+use Rattle.plan.proofs.Words.{patch-fields, gain-fields, matrix-fields, clear-fields, send-fields, output-fields, read-past, read-cut, read-whole, read-unnamed, read-patch, read-gain, read-matrix, read-clear, read-send, read-output}
 
 -- ---- the kind of a step that was read
 never : {X : Type 0} {s : Step} {next : ℕ} → Bad ≡ Found s next → X
 never e = let z : _≡_ {A = ℕ} 0 1 = cc in absurd (omega arith)
 
--- the step t of a map with n fields, which all lie within the words
+-- the step t of a map with n fields
 pub record Is (w : List ℕ) (at : ℕ) (s : Step) (next map : ℕ) (t : Step) (n : ℕ) : Type 0 where
   pub first : word w at ≡ map
   pub step : s ≡ t
   pub after : next ≡ at + (1 + n)
-  pub within : next ≤ length w
 
 -- one of the six kinds
 pub data Kind (w : List ℕ) (at : ℕ) (s : Step) (next : ℕ) : Type 0 where
@@ -38,6 +37,17 @@ pub data Kind (w : List ℕ) (at : ℕ) (s : Step) (next : ℕ) : Type 0 where
   clear : Is w at s next clearMap (clearAt w at) 2 → Kind w at s next
   send : Is w at s next sendMap (sendAt w at) 7 → Kind w at s next
   output : Is w at s next outputMap (outputAt w at) 3 → Kind w at s next
+
+-- by a table of any kinds a record ends where the fields of its map do
+among-next : (w : List ℕ) (at map : ℕ) (ks : List StepKind) {s : Step} {next : ℕ} → stepAmong ks w at map ≡ Found s next → next ≡ at + (1 + fields map)
+unfolding stepAmong
+among-next w at map [] e = never e
+among-next w at map (k ∷ ks) {s} {next} e = go (eqb map (mapOf (k .bits))) e (among-next w at map ks)
+  where
+    go : (b : Bool) → cond b (Found (k .made (field w at map)) (at + (1 + fields map))) (stepAmong ks w at map) ≡ Found s next
+        → (stepAmong ks w at map ≡ Found s next → next ≡ at + (1 + fields map)) → next ≡ at + (1 + fields map)
+    go true e rest = cc
+    go false e rest = rest e
 
 module _ (w : List ℕ) (at : ℕ) {s : Step} {next : ℕ} (r : readAt w at ≡ Found s next) where
   -- the map's fields are all there
@@ -54,8 +64,7 @@ module _ (w : List ℕ) (at : ℕ) {s : Step} {next : ℕ} (r : readAt w at ≡ 
   of-kind {map} {n} {t} e law m =
       let h : at + n < length w = omega (arith, whole, ap fields m ∙ e) in
       let q : Found s next ≡ Found t (at + (1 + n)) = sym r ∙ law m h in
-      let a : next ≡ at + (1 + n) = cc in
-      record { first = m; step = cc; after = a; within = omega arith }
+      record { first = m; step = cc; after = cc }
 
   pub read-kind : Kind w at s next
   read-kind =
@@ -74,17 +83,13 @@ module _ (w : List ℕ) (at : ℕ) {s : Step} {next : ℕ} (r : readAt w at ≡ 
       either : {A : Type 0} (map : ℕ) → (word w at ≡ map → A) → ((word w at ≡ map → ⊥) → A) → A
       either map = by map (ℕ-discrete (word w at) map)
 
-  -- it lies within the words
+  -- it ends where the fields of its map do, and lies within the words
+  pub read-next : next ≡ at + (1 + fields (word w at))
+  unfolding stepOf
+  read-next = among-next w at (word w at) kinds (sym (read-whole w at whole) ∙ r)
+
   pub read-within : (at < next) × (next ≤ length w)
-  read-within = go read-kind
-    where
-      go : Kind w at s next → (at < next) × (next ≤ length w)
-      go (patch k) = (omega arith, k .within)
-      go (gain k) = (omega arith, k .within)
-      go (matrix k) = (omega arith, k .within)
-      go (clear k) = (omega arith, k .within)
-      go (send k) = (omega arith, k .within)
-      go (output k) = (omega arith, k .within)
+  read-within = (omega (arith, read-next), omega (arith, read-next, whole))
 
 -- ---- words that agree up to n
 -- the words of a record are the same in both, and so is its step
