@@ -17,11 +17,12 @@ use Rattle.node.specs.Nodes.{gainOf, factor, finishBlock, Full}
 use Rattle.node.specs.Areas.{Room, nodeAt, storedFloats, storedWords}
 use Rattle.node.proofs.Kept.{full-load, full-finish}
 use Rattle.node.proofs.Left.{finish-rest, factor-rest}
-use Rattle.node.proofs.Areas.{stored-same, stored-other}
+use Rattle.node.proofs.Areas.{stored-same, stored-other, length-stored-floats, length-stored-words}
 use Rattle.mix.specs.Mix.{NotIn}
-use Rattle.plan.specs.Resolved.{Resolved, patch, gain, matrix, clear, send, output, nodeNamed, dstOf}
-use Rattle.run.specs.Run.{State, stepped}
-use Rattle.run.proofs.States.{step-lengths}
+use Rattle.plan.specs.Resolved.{Resolved, nodeNamed, dstOf}
+use Rattle.run.specs.Run.{State, stepped, finished}
+use Rattle.run.proofs.States as states
+use Rattle.run.proofs.States.{ends, step-nodes, step-lengths}
 use Rattle.theorem.proofs.Agree.{All, BufferRoom}
 
 -- a step's node is one of `count`, and the buffers that it writes are among m
@@ -111,30 +112,33 @@ module _ (count m b₁ k₁ b₂ k₂ : ℕ) (h₁ : k₁ < b₁) (h₂ : k₂ <
                 ∙ r n h)
             each i l (no e) = ap (λ (x : Node). x .left) (stored-other (s₁ .floats) (s₁ .words) n _ full₁ i e) ∙ r i l
 
-  module _ (input₁ input₂ : ℕ → ℕ → List Float) (s₁ s₂ : State) (t : SameNodes s₁ s₂) where
-    nodes-after : (x : Resolved) → InPlan count m x
-        → let t₁ : State = stepped b₁ input₁ x s₁ in
-        let t₂ : State = stepped b₂ input₂ x s₂ in
-        ((n : ℕ) → n < count → nodeAt (t₁ .floats) (t₁ .words) n ≡ nodeAt (t₂ .floats) (t₂ .words) n) × Steady (t₁ .floats) (t₁ .words)
-    unfolding stepped ended₁ ended₂
-    nodes-after (patch i c d) o = (t .same, t .steady)
-    nodes-after (gain n src dst) o = (end-same s₁ s₂ t n (o .0 .0), end-steady s₁ s₂ t n (o .0 .0))
-    nodes-after (matrix n src dst) o = (end-same s₁ s₂ t n (o .0 .0), end-steady s₁ s₂ t n (o .0 .0))
-    nodes-after (clear dst) o = (t .same, t .steady)
-    nodes-after (send n src dst weights) o = (end-same s₁ s₂ t n (o .0 .0), end-steady s₁ s₂ t n (o .0 .0))
-    nodes-after (output src slot) o = (t .same, t .steady)
-
-    pub nodes-step : (x : Resolved) → InPlan count m x → SameNodes (stepped b₁ input₁ x s₁) (stepped b₂ input₂ x s₂)
-    nodes-step x i =
-        let l₁ = step-lengths b₁ input₁ x s₁ in
-        let l₂ = step-lengths b₂ input₂ x s₂ in
-        let e = nodes-after x i in
+    end-both : SameNodes (finished b₁ n s₁) (finished b₂ n s₂)
+    unfolding ended₁ ended₂
+    end-both =
         record {
-          room₁ = (rw (l₁ .floats) (t .room₁ .0), rw (l₁ .words) (t .room₁ .1));
-          room₂ = (rw (l₂ .floats) (t .room₂ .0), rw (l₂ .words) (t .room₂ .1));
-          same = e .0;
-          steady = e .1;
+          room₁ = (rw (length-stored-floats (s₁ .floats) n _) (t .room₁ .0), rw (length-stored-words (s₁ .words) n _) (t .room₁ .1));
+          room₂ = (rw (length-stored-floats (s₂ .floats) n _) (t .room₂ .0), rw (length-stored-words (s₂ .words) n _) (t .room₂ .1));
+          same = end-same;
+          steady = end-steady;
         }
+
+  ends-both : (ns : List ℕ) → AllBelow count ns → (s₁ s₂ : State) → SameNodes s₁ s₂ → SameNodes (ends b₁ ns s₁) (ends b₂ ns s₂)
+  ends-both [] o s₁ s₂ t = t
+  ends-both (n ∷ ns) o s₁ s₂ t = ends-both ns (o .1) (finished b₁ n s₁) (finished b₂ n s₂) (end-both s₁ s₂ t n (o .0))
+
+  -- what a step leaves of the nodes is what the ends of their blocks do
+  as-ended : {s₁ t₁ s₂ t₂ : State} → states.SameNodes t₁ s₁ → states.SameNodes t₂ s₂ → SameNodes s₁ s₂ → SameNodes t₁ t₂
+  as-ended e₁ e₂ t =
+      record {
+        room₁ = rw (e₁ .floats, e₁ .words) (t .room₁);
+        room₂ = rw (e₂ .floats, e₂ .words) (t .room₂);
+        same = rw (e₁ .floats, e₁ .words, e₂ .floats, e₂ .words) (t .same);
+        steady = rw (e₁ .floats, e₁ .words) (t .steady);
+      }
+
+  module _ (input₁ input₂ : ℕ → ℕ → List Float) (s₁ s₂ : State) (t : SameNodes s₁ s₂) where
+    pub nodes-step : (x : Resolved) → InPlan count m x → SameNodes (stepped b₁ input₁ x s₁) (stepped b₂ input₂ x s₂)
+    nodes-step x i = as-ended (step-nodes b₁ input₁ x s₁) (step-nodes b₂ input₂ x s₂) (ends-both (nodeNamed x) (i .0) s₁ s₂ t)
 
     pub room-step : (x : Resolved) → BufferRoom b₁ k₁ b₂ k₂ h₁ h₂ m (s₁ .buffers) (s₂ .buffers)
         → BufferRoom b₁ k₁ b₂ k₂ h₁ h₂ m (stepped b₁ input₁ x s₁ .buffers) (stepped b₂ input₂ x s₂ .buffers)
