@@ -1,7 +1,7 @@
 -- The plans of document 01's table of cases, each by the builder calls that lay it out, and what is asked of them. Definitions only.
 use Prim.Native.Nat.{ℕ, zero, suc, _*_}
 use mathlib.Core.Path.{_≡_}
-use mathlib.Core.List.{List, [], _∷_, _++_, map}
+use mathlib.Core.List.{List, [], _∷_, _++_}
 use lib.Count.{ones, onesIn}
 use lib.ListN.{length, replicate}
 use lib.Ieee.{Float, add, sub, mul, div, eq, ofInt, ofBits}
@@ -20,7 +20,7 @@ use Rattle.plan.specs.Words.{patchMap, clearMap, sendMap, outputMap, stepOf, de
 use Rattle.plan.specs.Check.{idAmong, idTwice, outsideBy, shares, stepsTests, checkPlan}
 use Rattle.plan.specs.PlanRecord.{planWith}
 use Rattle.builder.specs.Calls.{numbersFrom, newAnswer, buffersIndices, coefficientsArea, nodeFloatsArea, nodeWordsArea, stepArea, finishAnswer, finishArea}
-use Rattle.builder.specs.Built.{BuilderCall, buffers, coefficients, node, step, asked}
+use Rattle.builder.specs.Built.{BuilderCall, buffers, coefficients, node, step}
 use Rattle.trace.specs.Calls.{sourcesAnswer, sourcesArea}
 use Rattle.trace.specs.declared.Sources.{Sources}
 use Rattle.run.specs.Run.{processed}
@@ -37,7 +37,7 @@ abbrev pub lent : Areas
 lent = areas (replicate 4 0) (replicate 1 plusZero) (replicate nodeFloats plusZero) (replicate nodeWords 0) (replicate 19 0) (replicate 6 plusZero)
 
 abbrev pub build : ℕ → List BuilderCall → Build
-build block calls = record { block = block; lent = lent; calls = map (asked unitLimits) calls }
+build block calls = record { block = block; lent = lent; calls = calls }
 
 -- One input through a Gain or a Matrix of one value, by its map, to slot 0. The index list names buffer i at place i.
 abbrev pub mono : (block map : ℕ) (value : Float) (ramp : ℕ) → Build
@@ -92,12 +92,12 @@ outputs [] = []
 outputs (setting id ramp values ∷ es) = outputs es
 outputs (ran directory samples out ∷ es) = out ∷ outputs es
 
--- Every call of the build is accepted, by the unit's limits, and the calls after it write these blocks, one for each accepted run. Unfolding it opens all that
+-- Every call of the build is accepted, and the calls after it write these blocks, one for each accepted run. Unfolding it opens all that
 -- they compute with.
 unfoldable pub Writes : Build → List RunCall → List (List Float) → Type 0
 unfolding ones onesIn add sub mul div eq ofInt ofBits newNode setNode finishBlock gainOf factor nodeAt floatsOf wordsOf someBad badNode stepOf decodedFrom decoded someFrom idAmong idTwice outsideBy has meet shares stepsTests newAnswer buffersIndices coefficientsArea nodeFloatsArea nodeWordsArea stepArea finishArea sampled added weighted sent columns weighs processed
 Writes b calls blocks =
-    (map (asked unitLimits) (acceptedCalls b) ≡ b .calls)
+    (acceptedCalls b ≡ b .calls)
     × (newAnswer (b .block) ≡ Accepted)
     × (finishAnswer unitLimits (grown b .plan) (length (b .lent .buffers)) ≡ Accepted)
     × (outputs (journal (fixed b) (changing b) calls) ≡ blocks)

@@ -22,7 +22,7 @@ use Rattle.builder.proofs.Kept.{accepted-kept}
 use Rattle.builder.proofs.Outcomes.{plan-accepted}
 use Rattle.builder.proofs.Fits.{node-fits}
 use Rattle.builder.proofs.ReadBack.{read-back}
-use Rattle.theorem.specs.Builds.{Build, begun, grown, acceptedCalls, NoRampBuilt}
+use Rattle.theorem.specs.Builds.{Build, unitCalls, begun, grown, acceptedCalls, NoRampBuilt}
 use Rattle.theorem.proofs.Nodes.{AtRest}
 use Rattle.theorem.proofs.Answers.{LaidOut, SameAnswers, same-answers}
 
@@ -40,7 +40,7 @@ module _ (P : BuilderState → Type 0) (keeps : (l : Limits) (s : BuilderState) 
   all-keep (c ∷ cs) s p = all-keep cs (after (c .limits) s (c .call)) (one-keeps (c .limits) s (c .call) p)
 
 pub block-kept : (b : Build) → grown b .plan .block ≡ b .block
-block-kept b = all-keep (λ (s : BuilderState). s .plan .block ≡ b .block) (λ l s c e p. accepted-kept l s c e .block ∙ p) (b .calls) (begun b) refl
+block-kept b = all-keep (λ (s : BuilderState). s .plan .block ≡ b .block) (λ l s c e p. accepted-kept l s c e .block ∙ p) (unitCalls (b .calls)) (begun b) refl
 
 abbrev NodeRoom : BuilderState → Type 0
 NodeRoom s = s .plan .nodes * nodeWords ≤ length (s .words)
@@ -58,14 +58,14 @@ abbrev pub draft : Build → Draft
 draft b = drafted noDraft (acceptedCalls b)
 
 pub holds : (b : Build) → Drafted (grown b) (draft b)
-holds b = read-back (b .block) (begun b) refl (b .calls)
+holds b = read-back (b .block) (begun b) refl (unitCalls (b .calls))
 
 placed : (b : Build) → newAnswer (b .block) ≡ Accepted → LaidOut (grown b) (draft b)
 unfolding newAnswer
 placed b e =
     record {
       holds = holds b;
-      nodes = all-keep NodeRoom room-kept (b .calls) (begun b) (omega arith);
+      nodes = all-keep NodeRoom room-kept (unitCalls (b .calls)) (begun b) (omega arith);
       block = rw (block-kept b) (accepted-none (newTests (b .block)) Accepted e .0 .0);
     }
 

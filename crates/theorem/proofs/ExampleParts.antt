@@ -4,7 +4,7 @@ use native.Mathlib.Omega.{arith}
 use mathlib.Core.Path.{_≡_, refl, sym, ap, subst, _∙_}
 use mathlib.Core.Bool.{Bool, true, false, _&&_, _||_, false≢true}
 use mathlib.Core.Logic.{_⊎_, inl, ⊎-elim}
-use mathlib.Core.List.{List, [], _∷_, map}
+use mathlib.Core.List.{List, [], _∷_}
 use native.Mathlib.Nat.{le-of-suc-le-suc, eq-or-lt-of-le}
 use borrow.Author.Tests.{ltb-true, ltb-false, leb-false, eqb-true, ne-eqb}
 use lib.Count.{ones, onesIn}
@@ -22,11 +22,10 @@ use Rattle.sets.specs.Sets.{sift}
 use Rattle.mix.specs.Samples.{sampled}
 use Rattle.mix.specs.Mix.{added, weighted, sent, columns, weighs}
 use Rattle.plan.specs.Words.{patchMap, gainMap, matrixMap, clearMap, sendMap, outputMap, stepOf, decoded, decodedFrom}
-use Rattle.plan.specs.Limits.{unitLimits}
 use Rattle.plan.specs.Areas.{Areas, areas}
 use Rattle.plan.specs.Check.{idAmong, idTwice, outsideBy, shares, stepsTests, checked}
 use Rattle.builder.specs.Calls.{newAnswer, buffersIndices, coefficientsArea, nodeFloatsArea, nodeWordsArea, stepArea, finishArea}
-use Rattle.builder.specs.Built.{BuilderCall, step, Asked, asked}
+use Rattle.builder.specs.Built.{BuilderCall, step}
 use Rattle.input.specs.Input.{entryWord, entryFor, entries}
 use Rattle.input.proofs.Input.{lookup-absent}
 use Rattle.trace.specs.Sources.{sourceList}
@@ -83,10 +82,6 @@ abbrev pub lentFor : ℕ → ℕ → ℕ → ℕ → ℕ → Areas
 lentFor indices coefficients nodes steps buffers =
     areas (replicate indices 9) (replicate coefficients nan) (replicate (nodes * nodeFloats) nan) (replicate (nodes * nodeWords) 9) (replicate steps 9)
     (replicate buffers nan)
-
--- ---- builder calls that are tested by the unit's limits
-abbrev pub unitCalls : List BuilderCall → List Asked
-unitCalls = map (asked unitLimits)
 
 -- ---- the builder's `step` for each kind; a span is its start and its length
 
@@ -164,10 +159,6 @@ unfolding has
 none-listed l s e i c h = absurd (false≢true (ap (λ (list : List ℕ). has list i) (sym e) ∙ h))
 
 -- ---- from what the builds and the journals were computed to be
-
--- the calls of a build, whatever limits they are tested by
-abbrev pub callsOf : Build → List BuilderCall
-callsOf b = map (λ (c : Asked). c .call) (b .calls)
 
 -- a build that is finished, and its accepted calls
 pub record BuiltBy (build : Build) (calls : List BuilderCall) : Type 0 where

@@ -15,7 +15,7 @@ use Rattle.run.specs.Calls.{Call, set}
 use Rattle.theorem.specs.Builds.{Build, Finished, acceptedCalls, fixed, changing, NoRampBuilt}
 use Rattle.theorem.specs.Journal.{total, settingsFrom, NoRampSet}
 use Rattle.theorem.specs.Statement.{Lists, a, b, firstJournal, secondJournal, Given, ListedCarryEqual, ChannelOf, SameOutput}
-use Rattle.theorem.proofs.ExampleParts.{definitions, one, two, three, four, one-two, two-three, sampleAt, lentFor, unitCalls, patchStep, gainStep, outputStep, feed, callsOf, BuiltBy, itself, someChannelFrom, none-listed, one-listed}
+use Rattle.theorem.proofs.ExampleParts.{definitions, one, two, three, four, one-two, two-three, sampleAt, lentFor, patchStep, gainStep, outputStep, feed, BuiltBy, itself, someChannelFrom, none-listed, one-listed}
 
 -- ---- the premises one by one; together they are `Given`
 
@@ -64,9 +64,9 @@ same-blocks l e differ = absurd (differ e)
 
 -- an Output of buffer 0, and only then a Patch of input 3 to it
 abbrev late : Build
-late = record { block = 1; lent = lentFor 1 0 0 8 1; calls = unitCalls (buffers 1 ∷ outputStep 0 1 0 ∷ patchStep 3 0 0 ∷ []) }
+late = record { block = 1; lent = lentFor 1 0 0 8 1; calls = buffers 1 ∷ outputStep 0 1 0 ∷ patchStep 3 0 0 ∷ [] }
 
-late-built : BuiltBy late (callsOf late)
+late-built : BuiltBy late (late .calls)
 unfolding definitions
 late-built = record { finished = record { new = refl; finish = refl }; accepted = refl }
 
@@ -106,9 +106,9 @@ clean-needed claim = late-differs (claim lateLists 0 late-common refl (same-bloc
 
 -- an Output of what a Patch of input 0 wrote
 abbrev direct : Build
-direct = record { block = 1; lent = lentFor 1 0 0 8 1; calls = unitCalls (buffers 1 ∷ patchStep 0 0 0 ∷ outputStep 0 1 0 ∷ []) }
+direct = record { block = 1; lent = lentFor 1 0 0 8 1; calls = buffers 1 ∷ patchStep 0 0 0 ∷ outputStep 0 1 0 ∷ [] }
 
-direct-built : BuiltBy direct (callsOf direct)
+direct-built : BuiltBy direct (direct .calls)
 unfolding definitions
 direct-built = record { finished = record { new = refl; finish = refl }; accepted = refl }
 
@@ -141,10 +141,10 @@ scaled =
     record {
       block = 1;
       lent = lentFor 2 0 1 14 2;
-      calls = unitCalls (buffers 2 ∷ node 7 (three ∷ []) 0 ∷ patchStep 0 0 0 ∷ gainStep 0 0 1 1 1 ∷ outputStep 1 1 0 ∷ []);
+      calls = buffers 2 ∷ node 7 (three ∷ []) 0 ∷ patchStep 0 0 0 ∷ gainStep 0 0 1 1 1 ∷ outputStep 1 1 0 ∷ [];
     }
 
-scaled-built : BuiltBy scaled (callsOf scaled)
+scaled-built : BuiltBy scaled (scaled .calls)
 unfolding definitions
 scaled-built = record { finished = record { new = refl; finish = refl }; accepted = refl }
 
@@ -198,14 +198,14 @@ fading block =
     record {
       block = block;
       lent = lentFor 3 0 1 20 6;
-      calls = unitCalls (buffers 3 ∷ node 7 (four ∷ []) 4 ∷ patchStep 0 0 0 ∷ gainStep 0 0 1 1 1 ∷ gainStep 0 0 1 2 1 ∷ outputStep 1 2 0 ∷ []);
+      calls = buffers 3 ∷ node 7 (four ∷ []) 4 ∷ patchStep 0 0 0 ∷ gainStep 0 0 1 1 1 ∷ gainStep 0 0 1 2 1 ∷ outputStep 1 2 0 ∷ [];
     }
 
-first-fading : BuiltBy (fading 1) (callsOf (fading 1))
+first-fading : BuiltBy (fading 1) (fading 1 .calls)
 unfolding definitions
 first-fading = record { finished = record { new = refl; finish = refl }; accepted = refl }
 
-second-fading : BuiltBy (fading 2) (callsOf (fading 2))
+second-fading : BuiltBy (fading 2) (fading 2 .calls)
 unfolding definitions
 second-fading = record { finished = record { new = refl; finish = refl }; accepted = refl }
 

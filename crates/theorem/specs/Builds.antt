@@ -1,19 +1,23 @@
--- A build: `new`, a list of builder calls, each with its limits, and `finish`, in lent areas of any content and length. Definitions only.
+-- A build: `new`, a list of builder calls, and `finish`, in lent areas of any content and length. Definitions only.
 use Prim.Native.Nat.{ℕ}
 use mathlib.Core.Path.{_≡_}
-use mathlib.Core.List.{List, [], _∷_}
+use mathlib.Core.List.{List, [], _∷_, map}
 use lib.ListN.{length}
 use Rattle.refusal.specs.declared.Answer.the-variants.{Accepted}
 use Rattle.plan.specs.Limits.{unitLimits}
 use Rattle.plan.specs.Areas.{Areas}
 use Rattle.builder.specs.Calls.{newAnswer, emptyPlan, finishAnswer, finishArea}
-use Rattle.builder.specs.Built.{BuilderCall, buffers, coefficients, node, step, Asked, BuilderState, built, accepted}
+use Rattle.builder.specs.Built.{BuilderCall, buffers, coefficients, node, step, Asked, asked, BuilderState, built, accepted}
 use Rattle.run.specs.Calls.{Fixed, Changing}
 
 pub record Build : Type 0 where
   pub block : ℕ
   pub lent : Areas
-  pub calls : List Asked
+  pub calls : List BuilderCall
+
+-- the calls of a build as they are tested: each by the unit's limits
+abbrev pub unitCalls : List BuilderCall → List Asked
+unitCalls = map (asked unitLimits)
 
 -- the plan and the areas after `new`, and after the calls, of which a refused one changes nothing
 abbrev pub begun : Build → BuilderState
@@ -28,11 +32,11 @@ begun b =
     }
 
 abbrev pub grown : Build → BuilderState
-grown b = built (begun b) (b .calls)
+grown b = built (begun b) (unitCalls (b .calls))
 
--- the calls that were accepted, in order, without the limits that they were tested by
+-- the calls that were accepted, in order
 abbrev pub acceptedCalls : Build → List BuilderCall
-acceptedCalls b = accepted (begun b) (b .calls)
+acceptedCalls b = accepted (begun b) (unitCalls (b .calls))
 
 -- `new` and `finish` are accepted
 pub record Finished (b : Build) : Type 0 where
