@@ -60,8 +60,8 @@ node-appended n id values ramp floats words hf hw =
     ap (λ (k : ℕ). nodes k fs ws) (add-one n) ∙ rw (before, last)
 
 module _ (l : Limits) (s : BuilderState) (d : Draft) (h : Drafted s d) where
-  buffers-held : (n : ℕ) → answer l s (buffers n) ≡ Accepted → Drafted (after l s (buffers n)) (given d (buffers n))
-  buffers-held n e =
+  buffers-drafted : (n : ℕ) → answer l s (buffers n) ≡ Accepted → Drafted (after l s (buffers n)) (given d (buffers n))
+  buffers-drafted n e =
       let p = s .plan in
       let f = buffers-fit l p n (length (s .indices)) e in
       let ns = length-numbers (p .buffers) n in
@@ -81,8 +81,8 @@ module _ (l : Limits) (s : BuilderState) (d : Draft) (h : Drafted s d) where
         steps = h .steps;
       })
 
-  coefficients-held : (xs : List Float) → answer l s (coefficients xs) ≡ Accepted → Drafted (after l s (coefficients xs)) (given d (coefficients xs))
-  coefficients-held xs e =
+  coefficients-drafted : (xs : List Float) → answer l s (coefficients xs) ≡ Accepted → Drafted (after l s (coefficients xs)) (given d (coefficients xs))
+  coefficients-drafted xs e =
       let p = s .plan in
       let f = coefficients-fit l p (length xs) (length (s .coefficients)) e in
       rw (plan-accepted p (coefficientsGrowth (length xs)) e, coefficients-accepted l p xs (s .coefficients) e)
@@ -100,8 +100,8 @@ module _ (l : Limits) (s : BuilderState) (d : Draft) (h : Drafted s d) where
         steps = h .steps;
       })
 
-  node-held : (id : ℕ) (xs : List Float) (ramp : ℕ) → answer l s (node id xs ramp) ≡ Accepted → Drafted (after l s (node id xs ramp)) (given d (node id xs ramp))
-  node-held id xs ramp e =
+  node-drafted : (id : ℕ) (xs : List Float) (ramp : ℕ) → answer l s (node id xs ramp) ≡ Accepted → Drafted (after l s (node id xs ramp)) (given d (node id xs ramp))
+  node-drafted id xs ramp e =
       let p = s .plan in
       let f = node-fits l p id (length xs) ramp (length (s .floats)) (s .words) e in
       rw (plan-accepted p nodeGrowth e, floats-accepted l p id xs ramp (s .floats) (s .words) e, words-accepted l p id xs ramp (s .floats) (s .words) e)
@@ -183,8 +183,8 @@ module _ (l : Limits) (s : BuilderState) (d : Draft) (h : Drafted s d) (w : List
         steps = subst (λ (ss : List Step). Reads (d .words ++ rec) 0 (d .steps ++ ss) (length (d .words ++ rec))) (sym given-step) (reads-one (reads-append rec (h .steps)) here);
       })
 
-  step-held : Drafted (after l s (step w)) (given d (step w))
-  step-held = go (readAt w 0) refl
+  step-drafted : Drafted (after l s (step w)) (given d (step w))
+  step-drafted = go (readAt w 0) refl
     where
       go : (r : Read) → readAt w 0 ≡ r → Drafted (after l s (step w)) (given d (step w))
       go (Found t next) r = step-read t next r
@@ -192,15 +192,15 @@ module _ (l : Limits) (s : BuilderState) (d : Draft) (h : Drafted s d) (w : List
 
 -- ---- lists of calls
 
-pub call-held : (l : Limits) (s : BuilderState) (d : Draft) (c : BuilderCall) → Drafted s d → answer l s c ≡ Accepted → Drafted (after l s c) (given d c)
-call-held l s d (buffers n) h e = buffers-held l s d h n e
-call-held l s d (coefficients xs) h e = coefficients-held l s d h xs e
-call-held l s d (node id xs ramp) h e = node-held l s d h id xs ramp e
-call-held l s d (step w) h e = step-held l s d h w e
+pub call-drafted : (l : Limits) (s : BuilderState) (d : Draft) (c : BuilderCall) → Drafted s d → answer l s c ≡ Accepted → Drafted (after l s c) (given d c)
+call-drafted l s d (buffers n) h e = buffers-drafted l s d h n e
+call-drafted l s d (coefficients xs) h e = coefficients-drafted l s d h xs e
+call-drafted l s d (node id xs ramp) h e = node-drafted l s d h id xs ramp e
+call-drafted l s d (step w) h e = step-drafted l s d h w e
 
-pub built-held : (cs : List Asked) (s : BuilderState) (d : Draft) → Drafted s d → Drafted (built s cs) (drafted d (accepted s cs))
-built-held [] s d h = h
-built-held (x ∷ cs) s d h = go (answer l s c) refl (built-held cs t (given d c)) (built-held cs t d)
+pub built-drafted : (cs : List Asked) (s : BuilderState) (d : Draft) → Drafted s d → Drafted (built s cs) (drafted d (accepted s cs))
+built-drafted [] s d h = h
+built-drafted (x ∷ cs) s d h = go (answer l s c) refl (built-drafted cs t (given d c)) (built-drafted cs t d)
   where
     l : Limits
     l = x .limits
@@ -213,13 +213,13 @@ built-held (x ∷ cs) s d h = go (answer l s c) refl (built-held cs t (given d c
 
     go : (a : Answer) → answer l s c ≡ a → (Drafted t (given d c) → Drafted (built t cs) (drafted (given d c) (accepted t cs)))
         → (Drafted t d → Drafted (built t cs) (drafted d (accepted t cs))) → Drafted (built t cs) (drafted d (outcome a (c ∷ accepted t cs) (λ _. accepted t cs)))
-    go Accepted e taken left = taken (call-held l s d c h e)
+    go Accepted e taken left = taken (call-drafted l s d c h e)
     go (Refused r) e taken left = left (subst (λ (u : BuilderState). Drafted u d) (sym (refused-nothing l s c r e)) h)
 
 -- what `new` leaves holds nothing, in areas of any content and length
-empty-held : (s : BuilderState) (block : ℕ) → s .plan ≡ emptyPlan block → Drafted s noDraft
+empty-drafted : (s : BuilderState) (block : ℕ) → s .plan ≡ emptyPlan block → Drafted s noDraft
 unfolding nodes
-empty-held s block e =
+empty-drafted s block e =
     record {
       buffers = ap (λ (p : Plan). p .buffers) e;
       index-count = ap (λ (p : Plan). p .indices) e;
@@ -237,8 +237,8 @@ empty-held s block e =
 -- The theorem: after `new` and any list of calls, each by its own limits and refused ones among them, in areas of any content and length, the plan
 -- holds the draft of the accepted calls.
 pub read-back : (block : ℕ) (s : BuilderState) → s .plan ≡ emptyPlan block → (cs : List Asked) → Drafted (built s cs) (drafted noDraft (accepted s cs))
-read-back block s e cs = built-held cs s noDraft (empty-held s block e)
+read-back block s e cs = built-drafted cs s noDraft (empty-drafted s block e)
 
 -- so the step words, as a run decodes them, are the steps that were given
-pub held-decoded : (s : BuilderState) (d : Draft) → Drafted s d → decoded (take (s .plan .words) (s .steps)) (s .plan .steps) ≡ d .steps
-held-decoded s d h = rw (h .words, h .step-count) (decoded-start (d .words) (length (d .steps)) ∙ reads-decoded (h .steps))
+pub drafted-steps : (s : BuilderState) (d : Draft) → Drafted s d → decoded (take (s .plan .words) (s .steps)) (s .plan .steps) ≡ d .steps
+drafted-steps s d h = rw (h .words, h .step-count) (decoded-start (d .words) (length (d .steps)) ∙ reads-decoded (h .steps))

@@ -78,7 +78,7 @@ module _ (p : Plan) (n : ℕ) where
 
 -- A state that holds a draft, with areas that have the words of its nodes, for a block within the limits. That they have the draft's other lists follows.
 pub record LaidOut (s : BuilderState) (d : Draft) : Type 0 where
-  pub holds : Drafted s d
+  pub drafted : Drafted s d
   pub nodes : s .plan .nodes * nodeWords ≤ length (s .words)
   pub block : badBlock (s .plan .block) ≡ false
 
@@ -88,7 +88,7 @@ front-room n xs ys e c = subst (λ (k : ℕ). k ≤ length xs) (sym (length-take
 
 long-enough : (s : BuilderState) (d : Draft) → LaidOut s d → shortLists (s .plan) (s .indices) (s .words) (s .steps) ≡ false
 long-enough s d t =
-    let h = t .holds in
+    let h = t .drafted in
     lists-none (s .plan) (s .indices) (s .words) (s .steps) .1
     (record {
       entries = front-room (s .plan .indices) (s .indices) (d .indices) (h .indices) (h .index-count);
@@ -142,10 +142,10 @@ pub record SameAnswers (s₁ s₂ : BuilderState) : Type 0 where
 
 module _ (s₁ s₂ : BuilderState) (d : Draft) (t₁ : LaidOut s₁ d) (t₂ : LaidOut s₂ d) where
   abbrev h₁ : Drafted s₁ d
-  h₁ = t₁ .holds
+  h₁ = t₁ .drafted
 
   abbrev h₂ : Drafted s₂ d
-  h₂ = t₂ .holds
+  h₂ = t₂ .drafted
 
   abbrev p₁ : Plan
   p₁ = s₁ .plan

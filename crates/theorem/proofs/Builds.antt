@@ -53,18 +53,18 @@ room-kept l s (node id xs ramp) e r =
     (node-fits l (s .plan) id (length xs) ramp (length (s .floats)) (s .words) e .words)
 room-kept l s (step w) e r = rw (plan-accepted (s .plan) (stepGrowth (recordLength w)) e) r
 
--- ---- what a build holds
+-- ---- the draft of a build
 abbrev pub draft : Build → Draft
 draft b = drafted noDraft (acceptedCalls b)
 
-pub holds : (b : Build) → Drafted (grown b) (draft b)
-holds b = read-back (b .block) (begun b) refl (unitCalls (b .calls))
+pub is-drafted : (b : Build) → Drafted (grown b) (draft b)
+is-drafted b = read-back (b .block) (begun b) refl (unitCalls (b .calls))
 
 placed : (b : Build) → newAnswer (b .block) ≡ Accepted → LaidOut (grown b) (draft b)
 unfolding newAnswer
 placed b e =
     record {
-      holds = holds b;
+      drafted = is-drafted b;
       nodes = all-keep NodeRoom room-kept (unitCalls (b .calls)) (begun b) (omega arith);
       block = rw (block-kept b) (accepted-none (newTests (b .block)) Accepted e .0 .0);
     }
@@ -86,13 +86,13 @@ drafted-rest (node id values ramp ∷ cs) d r f =
 drafted-rest (step w ∷ cs) d r f = drafted-rest cs (given d (step w)) r f
 
 pub built-rest : (b : Build) → NoRampBuilt (acceptedCalls b) → AtRest (nodes (grown b .plan .nodes) (grown b .floats) (grown b .words))
-built-rest b f = rw (holds b .nodes) (drafted-rest (acceptedCalls b) noDraft (λ n. refl) f)
+built-rest b f = rw (is-drafted b .nodes) (drafted-rest (acceptedCalls b) noDraft (λ n. refl) f)
 
 -- ---- two builds of the same accepted calls
 module _ (b₁ b₂ : Build) (e : acceptedCalls b₁ ≡ acceptedCalls b₂) where
-  -- the second holds the draft of the first
-  pub holds-too : Drafted (grown b₂) (draft b₁)
-  holds-too = subst (λ (cs : List BuilderCall). Drafted (grown b₂) (drafted noDraft cs)) (sym e) (holds b₂)
+  -- the draft of the first is that of the second too
+  pub drafted-too : Drafted (grown b₂) (draft b₁)
+  drafted-too = subst (λ (cs : List BuilderCall). Drafted (grown b₂) (drafted noDraft cs)) (sym e) (is-drafted b₂)
 
   pub builds-answer : newAnswer (b₁ .block) ≡ Accepted → newAnswer (b₂ .block) ≡ Accepted → SameAnswers (grown b₁) (grown b₂)
   builds-answer new₁ new₂ =

@@ -10,7 +10,7 @@ use Rattle.plan.specs.Resolved.{resolved, resolvedSteps}
 use Rattle.plan.specs.Sound.{Inside, Each, stepsOf}
 use Rattle.plan.proofs.Grown.{all-resolved-same}
 use Rattle.builder.specs.Built.{BuilderState, Draft, Drafted}
-use Rattle.builder.proofs.ReadBack.{held-decoded}
+use Rattle.builder.proofs.ReadBack.{drafted-steps}
 use Rattle.trace.specs.Calls.{tracedSteps}
 use Rattle.run.specs.Calls.{Fixed, Changing, stepsOfPlan}
 use Rattle.theorem.proofs.OneDraft.{OneDraft}
@@ -32,7 +32,7 @@ module _ (s₁ s₂ : BuilderState) (d : Draft) (h₁ : Drafted s₁ d) (h₂ : 
     both-steps : (xs₁ xs₂ : List Float) → take (s₁ .plan .coefficients) xs₂ ≡ take (s₁ .plan .coefficients) xs₁
         → resolvedSteps (s₂ .plan) (s₂ .indices) xs₂ (s₂ .steps) ≡ resolvedSteps (s₁ .plan) (s₁ .indices) xs₁ (s₁ .steps)
     both-steps xs₁ xs₂ e =
-        ap (map (resolved (s₂ .plan) (s₂ .indices) xs₂)) (held-decoded s₂ d h₂ ∙ sym (held-decoded s₁ d h₁))
+        ap (map (resolved (s₂ .plan) (s₂ .indices) xs₂)) (drafted-steps s₂ d h₂ ∙ sym (drafted-steps s₁ d h₁))
         ∙ all-resolved-same (s₁ .plan) (s₂ .indices) (s₁ .indices) same-indices xs₂ xs₁ e (s₂ .plan) (s₁ .plan) (stepsOf (s₁ .plan) (s₁ .steps)) inside
       where
         same-indices : take (s₁ .plan .indices) (s₂ .indices) ≡ take (s₁ .plan .indices) (s₁ .indices)

@@ -6,7 +6,7 @@ use Rattle.theorem.specs.Statement.{Lists, a, b, Given, ListedCarryEqual
 use Rattle.theorem.proofs.CleanPlans.{clean-sound}
 use Rattle.theorem.proofs.OneDraft.{drafts-agree}
 use Rattle.theorem.proofs.Drafts.{one-draft}
-use Rattle.theorem.proofs.Builds.{block-kept, draft, holds, holds-too, built-rest}
+use Rattle.theorem.proofs.Builds.{block-kept, draft, is-drafted, drafted-too, built-rest}
 
 -- Demand 3.
 pub two-lists : (l : Lists) → Given l → (s : ℕ) → ListedCarryEqual l s → SameOutput l s
@@ -18,7 +18,7 @@ two-lists l given =
     (record {
       first-block = block-kept x;
       second-block = block-kept y;
-      one-draft = one-draft (grown x) (grown y) (draft x) (holds x) (holds-too x y (given .same-calls)) inside (changing x .buffers) (changing y .buffers);
+      one-draft = one-draft (grown x) (grown y) (draft x) (is-drafted x) (drafted-too x y (given .same-calls)) inside (changing x .buffers) (changing y .buffers);
       clean = given .clean;
       same-total = given .same-total;
       alike = given .alike;
