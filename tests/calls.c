@@ -17,6 +17,19 @@ enum { ROOM = LISTS };
 static uint32_t indices[ROOM], node_words[ROOM], steps[ROOM];
 static float coefficients[ROOM], node_floats[ROOM], buffers[ROOM];
 
+/* The words of a node and its three rows, and where each stands. */
+enum { ID, LEN, LEFT, CUR = 0, TARGET = MIXER_MAX_VALUES, STEP = 2 * MIXER_MAX_VALUES };
+
+static const uint32_t *words_of(size_t node)
+{
+    return node_words + node * MIXER_NODE_WORDS;
+}
+
+static const float *floats_of(size_t node)
+{
+    return node_floats + node * MIXER_NODE_FLOATS;
+}
+
 static bool same(mixer_plan a, mixer_plan b)
 {
     return memcmp(&a, &b, sizeof a) == 0;
@@ -81,22 +94,23 @@ static mixer_plan with_coefficients(mixer_plan p)
 static mixer_plan with_nodes(mixer_plan p)
 {
     static float levels[ROOM] = {0.5f, 0.25f}, row[ROOM] = {2.0f, 8.0f}, send[ROOM] = {4.0f};
-    mixer_node_reply n = mixer_node(p, 70, levels, 2, 0, node_floats, 72, node_words, 3);
+    mixer_node_reply n = mixer_node(p, 70, levels, 2, 0, node_floats, MIXER_NODE_FLOATS, node_words, MIXER_NODE_WORDS);
     ACCEPTED(n.status);
     CHECK(n.node == 0 && n.plan.nodes == 1);
-    n = mixer_node(n.plan, 71, row, 2, 0, node_floats, 144, node_words, 6);
+    n = mixer_node(n.plan, 71, row, 2, 0, node_floats, 2 * MIXER_NODE_FLOATS, node_words, 2 * MIXER_NODE_WORDS);
     ACCEPTED(n.status);
     CHECK(n.node == 1 && n.plan.nodes == 2);
     p = n.plan;
     n = mixer_node(p, 71, send, 1, 16, node_floats, NODE_FLOATS, node_words, NODE_WORDS);
     REFUSED(n.status, MIXER_ID_TAKEN, 0);
-    CHECK(n.node == 0 && same(n.plan, p) && node_words[6] == 0);
+    CHECK(n.node == 0 && same(n.plan, p) && words_of(2)[ID] == 0);
     n = mixer_node(p, 72, send, 1, 16, node_floats, NODE_FLOATS, node_words, NODE_WORDS);
     ACCEPTED(n.status);
     CHECK(n.node == 2 && n.plan.nodes == NODES);
-    CHECK(node_words[0] == 70 && node_words[1] == 2 && node_words[2] == 0 && node_words[6] == 72 && node_words[7] == 1 && node_words[8] == 16);
-    CHECK(node_floats[0] == 0.5f && node_floats[1] == 0.25f && node_floats[24] == 0.5f && node_floats[25] == 0.25f);
-    CHECK(node_floats[144] == 0.0f && node_floats[168] == 4.0f && node_floats[192] == 0.25f && node_words[9] == 0);
+    CHECK(words_of(0)[ID] == 70 && words_of(0)[LEN] == 2 && words_of(0)[LEFT] == 0);
+    CHECK(words_of(2)[ID] == 72 && words_of(2)[LEN] == 1 && words_of(2)[LEFT] == 16 && node_words[NODE_WORDS] == 0);
+    CHECK(floats_of(0)[CUR] == 0.5f && floats_of(0)[CUR + 1] == 0.25f && floats_of(0)[TARGET] == 0.5f && floats_of(0)[TARGET + 1] == 0.25f);
+    CHECK(floats_of(2)[CUR] == 0.0f && floats_of(2)[TARGET] == 4.0f && floats_of(2)[STEP] == 0.25f);
     return n.plan;
 }
 
@@ -147,32 +161,33 @@ static void set(mixer_plan p)
 {
     static float values[ROOM] = {3.0f, 9.0f};
     REFUSED(mixer_set_param(p, 73, values, 2, 4, node_floats, NODE_FLOATS, node_words, NODE_WORDS), MIXER_UNKNOWN_ID, 0);
-    CHECK(node_words[8] == 16);
+    CHECK(words_of(2)[LEFT] == 16);
     ACCEPTED(mixer_set_param(p, 72, values, 2, 4, node_floats, NODE_FLOATS, node_words, NODE_WORDS));
-    CHECK(node_words[6] == 72 && node_words[7] == 1 && node_words[8] == 4);
-    CHECK(node_floats[144] == 0.0f && node_floats[168] == 3.0f && node_floats[169] == 0.0f && node_floats[192] == 0.75f);
+    CHECK(words_of(2)[ID] == 72 && words_of(2)[LEN] == 1 && words_of(2)[LEFT] == 4);
+    CHECK(floats_of(2)[CUR] == 0.0f && floats_of(2)[TARGET] == 3.0f && floats_of(2)[TARGET + 1] == 0.0f && floats_of(2)[STEP] == 0.75f);
     values[0] = 4.0f;
     ACCEPTED(mixer_set_param(p, 72, values, 1, 0, node_floats, NODE_FLOATS, node_words, NODE_WORDS));
-    CHECK(node_words[8] == 0 && node_floats[144] == 4.0f && node_floats[168] == 4.0f);
+    CHECK(words_of(2)[LEFT] == 0 && floats_of(2)[CUR] == 4.0f && floats_of(2)[TARGET] == 4.0f);
 }
 
 /* Node 2 takes over from node 0 of an old plan of two nodes, node 0 from its node 1. */
 static void adopted(mixer_plan p)
 {
     static float old_floats[ROOM];
-    static uint32_t old_words[ROOM] = {80, 1, 0, 81, 2, 0}, pairs[ROOM] = {2, 0, 0, 1};
+    static uint32_t old_words[ROOM] = {[ID] = 80, [LEN] = 1, [MIXER_NODE_WORDS + ID] = 81, [MIXER_NODE_WORDS + LEN] = 2}, pairs[ROOM] = {2, 0, 0, 1};
     mixer_plan old = p;
     old.nodes = OLD_NODES;
     old_floats[0] = 3.0f;
-    old_floats[72] = 1.0f;
-    old_floats[73] = 0.5f;
+    old_floats[MIXER_NODE_FLOATS] = 1.0f;
+    old_floats[MIXER_NODE_FLOATS + 1] = 0.5f;
     REFUSED(mixer_adopt(p, node_floats, NODE_FLOATS, node_words, NODE_WORDS, old, old_floats, OLD_FLOATS, old_words, OLD_WORDS, pairs, 3, 2),
             MIXER_ODD_LIST, 0);
-    CHECK(node_words[8] == 0 && node_floats[144] == 4.0f);
+    CHECK(words_of(2)[LEFT] == 0 && floats_of(2)[CUR] == 4.0f);
     ACCEPTED(mixer_adopt(p, node_floats, NODE_FLOATS, node_words, NODE_WORDS, old, old_floats, OLD_FLOATS, old_words, OLD_WORDS, pairs, PAIRS, 2));
-    CHECK(node_words[2] == 2 && node_floats[0] == 1.0f && node_floats[1] == 0.5f && node_floats[24] == 0.5f && node_floats[48] == -0.25f);
-    CHECK(node_words[5] == 0 && node_floats[72] == 2.0f && node_floats[73] == 8.0f);
-    CHECK(node_words[8] == 2 && node_floats[144] == 3.0f && node_floats[168] == 4.0f && node_floats[192] == 0.5f);
+    CHECK(words_of(0)[LEFT] == 2 && floats_of(0)[CUR] == 1.0f && floats_of(0)[CUR + 1] == 0.5f);
+    CHECK(floats_of(0)[TARGET] == 0.5f && floats_of(0)[STEP] == -0.25f);
+    CHECK(words_of(1)[LEFT] == 0 && floats_of(1)[CUR] == 2.0f && floats_of(1)[CUR + 1] == 8.0f);
+    CHECK(words_of(2)[LEFT] == 2 && floats_of(2)[CUR] == 3.0f && floats_of(2)[TARGET] == 4.0f && floats_of(2)[STEP] == 0.5f);
 }
 
 /* An entry of no samples, and one for each Patch; the last sample is the end of a part. */
@@ -191,14 +206,14 @@ static void ran(mixer_plan p)
     static float output[ROOM] = {7, 7, 7, 7, 7, 7, 7};
     mixer_count_reply r = run(p, DIRECTORY, SAMPLES, output, OUTPUT - 1);
     REFUSED(r.status, MIXER_SHORT_OUTPUT, 0);
-    CHECK(r.count == 0 && output[0] == 7 && node_words[2] == 2 && buffers[0] == 0);
+    CHECK(r.count == 0 && output[0] == 7 && words_of(0)[LEFT] == 2 && buffers[0] == 0);
     REFUSED(run(p, DIRECTORY, SAMPLES - 1, output, OUTPUT).status, MIXER_BAD_DIRECTORY, 0);
     REFUSED(run(p, DIRECTORY + 1, SAMPLES, output, OUTPUT).status, MIXER_BAD_DIRECTORY, 0);
     r = run(p, DIRECTORY, SAMPLES, output, OUTPUT);
     ACCEPTED(r.status);
     CHECK(r.count == OUTPUT && memcmp(output, first, sizeof first) == 0 && output[OUTPUT] == 7);
     CHECK(buffers[0] == 4 && buffers[1] == 2 && buffers[4] == 16 && buffers[5] == 32 && memcmp(buffers + 6, first + 2, 4 * sizeof first[0]) == 0);
-    CHECK(node_words[2] == 0 && node_words[8] == 0 && node_floats[0] == 0.5f && node_floats[144] == 4.0f);
+    CHECK(words_of(0)[LEFT] == 0 && words_of(2)[LEFT] == 0 && floats_of(0)[CUR] == 0.5f && floats_of(2)[CUR] == 4.0f);
     r = run(p, 0, 0, output, OUTPUT);
     ACCEPTED(r.status);
     CHECK(r.count == OUTPUT && memcmp(output, silent, sizeof silent) == 0 && output[OUTPUT] == 7);

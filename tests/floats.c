@@ -26,17 +26,18 @@ static uint32_t bits(float x)
 static uint32_t heard(float sample, float gain, unsigned state)
 {
     static const uint32_t directory[] = {0, 0, 0, 1}, records[] = {MIXER_PATCH, 0, 0, 0, MIXER_GAIN, 0, 0, 1, 1, 1, MIXER_OUTPUT, 1, 1, 0};
-    uint32_t indices[2], words[3], steps[14];
-    float floats[72], buffers[2], output = 7;
+    uint32_t indices[2], words[MIXER_NODE_WORDS], steps[14];
+    float floats[MIXER_NODE_FLOATS], buffers[2], output = 7;
     mixer_plan p = mixer_buffers(mixer_new(1).plan, 2, indices, 2).plan;
     mixer_count_reply r;
-    p = mixer_node(p, 5, &gain, 1, 0, floats, 72, words, 3).plan;
+    p = mixer_node(p, 5, &gain, 1, 0, floats, MIXER_NODE_FLOATS, words, MIXER_NODE_WORDS).plan;
     p = mixer_step(p, records, 4, steps, 14).plan;
     p = mixer_step(p, records + 4, 6, steps, 14).plan;
     p = mixer_step(p, records + 10, 4, steps, 14).plan;
     ACCEPTED(mixer_finish(p, buffers, 2).status);
     _mm_setcsr(state);
-    r = mixer_process(p, indices, 2, NULL, 0, floats, 72, words, 3, steps, 14, buffers, 2, directory, 4, &sample, 1, &output, 1);
+    r = mixer_process(p, indices, 2, NULL, 0, floats, MIXER_NODE_FLOATS, words, MIXER_NODE_WORDS, steps, 14, buffers, 2, directory, 4, &sample, 1,
+                      &output, 1);
     _mm_setcsr(DEFAULT_STATE);
     ACCEPTED(r.status);
     CHECK(r.count == 1);

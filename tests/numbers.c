@@ -7,8 +7,8 @@
 #define AREA(a) (a), sizeof(a) / sizeof((a)[0])
 
 /* Areas with room for a plan at each limit, and one more. */
-static uint32_t indices[1025], node_words[65 * 3], steps[513 * 3], directory[513 * 4];
-static float coefficients[1025], node_floats[65 * 72], buffers[4], values[1025], samples[1];
+static uint32_t indices[1025], node_words[65 * MIXER_NODE_WORDS], steps[513 * 3], directory[513 * 4];
+static float coefficients[1025], node_floats[65 * MIXER_NODE_FLOATS], buffers[4], values[1025], samples[1];
 
 static void tables_at_limits(void)
 {
@@ -46,7 +46,7 @@ static void nodes_at_limits(void)
     REFUSED(mixer_set_param(p, 0, values, 1, 0, AREA(node_floats), AREA(node_words)), MIXER_BAD_NODE, 0);
     node_words[1] = MIXER_MAX_VALUES;
     ACCEPTED(mixer_set_param(p, 0, values, 1, 0, AREA(node_floats), AREA(node_words)));
-    node_words[3] = node_words[0];
+    node_words[MIXER_NODE_WORDS] = node_words[0];
     REFUSED(mixer_set_param(p, 0, values, 1, 0, AREA(node_floats), AREA(node_words)), MIXER_ID_TAKEN, 0);
 }
 

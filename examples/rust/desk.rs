@@ -106,7 +106,12 @@ const OUTPUT: u32 = 1072;
 const MONO: u32 = 0;
 const STEREO: u32 = 1;
 
+/// The floats and the words of a node in its areas.
+const NODE_FLOATS: usize = 72;
+const NODE_WORDS: usize = 3;
+
 const BLOCK: usize = 4;
+const NODES: usize = 3;
 const CHANNELS: usize = 3;
 const MICROPHONE: u32 = 12;
 const BAND: u32 = 40;
@@ -134,8 +139,8 @@ struct Desk {
     plan: Plan,
     indices: [u32; 16],
     coefficients: [f32; 16],
-    floats: [f32; 3 * 72],
-    words: [u32; 3 * 3],
+    floats: [f32; NODES * NODE_FLOATS],
+    words: [u32; NODES * NODE_WORDS],
     steps: [u32; 64],
     buffers: [f32; 7 * BLOCK],
 }
@@ -148,8 +153,8 @@ impl Desk {
             plan: r.plan,
             indices: [0; 16],
             coefficients: [0.0; 16],
-            floats: [0.0; 3 * 72],
-            words: [0; 3 * 3],
+            floats: [0.0; NODES * NODE_FLOATS],
+            words: [0; NODES * NODE_WORDS],
             steps: [0; 64],
             buffers: [0.0; 7 * BLOCK],
         })

@@ -39,16 +39,20 @@ pub over-ramp : (adoptionAnswer new old (0 ∷ 0 ∷ []) 4 ≡ Accepted)
     × (take 1 (after (0 ∷ 0 ∷ []) 4 .cur) ≡ f32 3 ∷ [])
     × (take 1 (after (0 ∷ 0 ∷ []) 4 .target) ≡ f32 1 ∷ [])
     × (take 1 (after (0 ∷ 0 ∷ []) 4 .step) ≡ minusHalf ∷ [])
-    × (adoptionWords new old (0 ∷ 0 ∷ []) 4 ≡ 7 ∷ 1 ∷ 4 ∷ [])
+    × (after (0 ∷ 0 ∷ []) 4 .id ≡ 7)
+    × (after (0 ∷ 0 ∷ []) 4 .len ≡ 1)
+    × (after (0 ∷ 0 ∷ []) 4 .left ≡ 4)
 unfolding adoptionAnswer adoptionFloats adoptionWords pairsAdopted pairAdopted newNode setNode nodeAt floatsOf wordsOf badNode someBad sub div ofInt
-over-ramp = (refl, refl, refl, refl, refl)
+over-ramp = (refl, refl, refl, refl, refl, refl, refl)
 
 -- at once: at its own target
 pub at-once : (take 1 (after (0 ∷ 0 ∷ []) 0 .cur) ≡ f32 1 ∷ [])
     × (take 1 (after (0 ∷ 0 ∷ []) 0 .target) ≡ f32 1 ∷ [])
-    × (adoptionWords new old (0 ∷ 0 ∷ []) 0 ≡ 7 ∷ 1 ∷ 0 ∷ [])
+    × (after (0 ∷ 0 ∷ []) 0 .id ≡ 7)
+    × (after (0 ∷ 0 ∷ []) 0 .len ≡ 1)
+    × (after (0 ∷ 0 ∷ []) 0 .left ≡ 0)
 unfolding adoptionAnswer adoptionFloats adoptionWords pairsAdopted pairAdopted newNode setNode nodeAt floatsOf wordsOf badNode someBad sub div ofInt
-at-once = (refl, refl, refl)
+at-once = (refl, refl, refl, refl, refl)
 
 -- the later of two pairs of one new node stands
 pub in-order : take 1 (after (0 ∷ 0 ∷ 0 ∷ 2 ∷ []) 4 .cur) ≡ f32 2 ∷ []

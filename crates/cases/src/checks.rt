@@ -2,6 +2,7 @@
 use crate::answers;
 use crate::plans;
 use builder_calls::PlanBuilder;
+use node::Node;
 use plan::Plan;
 use trace::Sources;
 
@@ -28,8 +29,8 @@ fn slots(plan: Plan, indices: &[u32], node_words: &[u32], steps: &[u32]) {
 pub fn traced() {
     let mut indices = [0u32; 2];
     let mut coefficients = [0.0f32; 1];
-    let mut node_floats = [0.0f32; 72];
-    let mut node_words = [0u32; 3];
+    let mut node_floats = [0.0f32; Node::FLOATS];
+    let mut node_words = [0u32; Node::WORDS];
     let mut steps = [0u32; 19];
     let mut buffers = [0.0f32; 2];
     let plan = plans::begun(1, 2, &[0.0], &mut indices, &mut coefficients);
@@ -47,6 +48,10 @@ pub fn block(n: usize) {
 
 // Case 11: the plan check of one step, with 14 buffers and a node of 24 values, in areas that no builder laid out.
 pub fn step(words: &[u32]) {
+    let mut node_floats = [0.0f32; Node::FLOATS];
+    let mut node_words = [0u32; Node::WORDS];
+    let node = Node::new(7, &[0.0; Node::MAX], 0);
+    node_areas::store(node, &mut node_floats, &mut node_words, 0);
     let plan = Plan {
         block: 1,
         buffers: 14,
@@ -60,8 +65,8 @@ pub fn step(words: &[u32]) {
         plan,
         &[0, 1, 2, 3, 4, 5, 6, 7, 8, 9, 10, 11, 12, 13],
         &[],
-        &[0.0; 72],
-        &[7, 24, 0],
+        &node_floats,
+        &node_words,
         words,
         &[0.0; 14],
     );

@@ -120,8 +120,8 @@ fn twice(
 pub fn ramped(block: usize, directory: &[u32]) {
     let mut indices = [0u32; 2];
     let mut coefficients = [0.0f32; 0];
-    let mut node_floats = [0.0f32; 72];
-    let mut node_words = [0u32; 3];
+    let mut node_floats = [0.0f32; Node::FLOATS];
+    let mut node_words = [0u32; Node::WORDS];
     let mut steps = [0u32; 14];
     let mut buffers = [0.0f32; 6];
     let plan = plans::begun(block, 2, &[], &mut indices, &mut coefficients);
@@ -160,8 +160,8 @@ fn once(
 ) -> usize {
     let mut indices = [0u32; 4];
     let mut coefficients = [0.0f32; 1];
-    let mut node_floats = [0.0f32; 72];
-    let mut node_words = [0u32; 3];
+    let mut node_floats = [0.0f32; Node::FLOATS];
+    let mut node_words = [0u32; Node::WORDS];
     let mut steps = [0u32; 19];
     let mut buffers = [0.0f32; 4];
     let plan = plans::begun(1, n, weights, &mut indices, &mut coefficients);

@@ -13,8 +13,12 @@ mod steps;
 mod strips;
 
 use desk::draft;
+use node::Node;
 use plan::Plan;
 use refusal::Answer;
+
+// The nodes that the areas have room for.
+const NODES: usize = 40;
 
 // What a plan that is laid out does: whether it is clean, its run, its cue sheet.
 fn show(
@@ -62,8 +66,8 @@ fn main() {
     // The areas of the plan, each longer than it needs.
     let mut indices = [0u32; 64];
     let mut coefficients = [0.0f32; 256];
-    let mut floats = [0.0f32; 2_880];
-    let mut words = [0u32; 120];
+    let mut floats = [0.0f32; NODES * Node::FLOATS];
+    let mut words = [0u32; NODES * Node::WORDS];
     let mut steps = [0u32; 512];
     let mut buffers = [0.0f32; 16_384];
     text::put(b"Sezhqolma: the default show of a theatre unit\n");
