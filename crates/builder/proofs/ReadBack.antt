@@ -27,6 +27,7 @@ use Rattle.plan.specs.declared.Limits.{Limits}
 use Rattle.plan.specs.Words.{fields, readAt, decodedFrom, decoded}
 use Rattle.plan.specs.Records.{word}
 use Rattle.plan.proofs.Words.{patch-fields, gain-fields, matrix-fields, clear-fields, send-fields, output-fields, read-past, decoded-on, decoded-none, decoded-start}
+use Rattle.plan.proofs.Parts.{endFrom}
 use Rattle.plan.proofs.Places.{Is, Kind, patch, gain, matrix, clear, send, output, read-kind, read-agree, read-append, read-seam}
 use Rattle.builder.specs.Growth.{buffersGrowth, coefficientsGrowth, nodeGrowth, stepGrowth}
 use Rattle.builder.specs.Calls.{emptyPlan, numbersFrom, recordLength, unreadable}
@@ -153,6 +154,11 @@ reads-one (then r rs) q = then r (reads-one rs q)
 pub reads-decoded : {w : List ℕ} {at end : ℕ} {ss : List Step} → Reads w at ss end → decodedFrom w (length ss) at ≡ ss
 reads-decoded {w} {at} none = decoded-none w at refl
 reads-decoded {w} {at} (then {s = s} r rs) = decoded-on w at refl r ∙ ap (λ (l : List Step). s ∷ l) (reads-decoded rs)
+
+-- … and end where its steps do, as the laws of steps in two parts ask for it
+pub reads-end : {w : List ℕ} {at end : ℕ} {ss : List Step} → Reads w at ss end → endFrom w (length ss) at ≡ end
+reads-end none = refl
+reads-end (then r rs) = rw r (reads-end rs)
 
 module _ (l : Limits) (s : BuilderState) (d : Draft) (h : Drafted s d) (w : List ℕ) (e : answer l s (step w) ≡ Accepted) where
   -- the record that was given is a step, and lies after the words before it
