@@ -1,5 +1,5 @@
 // The answers of the builder calls, and what the calls are: what they add, their tests, what they write, what lists of them leave, and the laws of that. There is no
-// code here: crates `builder_answers` and `builder_calls` have it.
+// code here: crates `builder_answers`, `builder_areas` and `builder_calls` have it.
 use plan::Span;
 use refusal::Refusal;
 
