@@ -25,10 +25,9 @@ use Rattle.plan.specs.declared.Read.{Read}
 use Rattle.plan.specs.declared.Read.the-variants.{Found, Bad}
 use Rattle.plan.specs.declared.Limits.{Limits}
 use Rattle.plan.specs.Words.{fields, readAt, decodedFrom, decoded}
-use Rattle.plan.specs.Records.{word}
-use Rattle.plan.proofs.Words.{patch-fields, gain-fields, matrix-fields, clear-fields, send-fields, output-fields, read-past, decoded-on, decoded-none, decoded-start}
+use Rattle.plan.proofs.Words.{read-past, decoded-on, decoded-none, decoded-start}
 use Rattle.plan.proofs.Parts.{endFrom}
-use Rattle.plan.proofs.Places.{Is, Kind, patch, gain, matrix, clear, send, output, read-kind, read-agree, read-append, read-seam}
+use Rattle.plan.proofs.Places.{read-next, read-agree, read-append, read-seam}
 use Rattle.builder.specs.Growth.{buffersGrowth, coefficientsGrowth, nodeGrowth, stepGrowth}
 use Rattle.builder.specs.Calls.{emptyPlan, numbersFrom, recordLength, unreadable}
 use Rattle.builder.specs.Built.{BuilderCall, buffers, coefficients, node, step, Asked, BuilderState, answer, after, built, accepted, Draft, noDraft, stepRead, given, drafted, Reads, none, then, Drafted}
@@ -121,21 +120,6 @@ module _ (l : Limits) (s : BuilderState) (d : Draft) (h : Drafted s d) where
       })
 
 -- ---- the steps
-
--- a step that was read ends where its map's fields do
-read-next : (w : List ℕ) (at : ℕ) {s : Step} {next : ℕ} → readAt w at ≡ Found s next → next ≡ at + (1 + fields (word w at))
-read-next w at {s} {next} r = go (read-kind w at r)
-  where
-    ends : {map n : ℕ} {t : Step} → fields map ≡ n → Is w at s next map t n → next ≡ at + (1 + fields (word w at))
-    ends e i = i .after ∙ ap (λ (k : ℕ). at + (1 + k)) (sym (ap fields (i .first) ∙ e))
-
-    go : Kind w at s next → next ≡ at + (1 + fields (word w at))
-    go (patch i) = ends patch-fields i
-    go (gain i) = ends gain-fields i
-    go (matrix i) = ends matrix-fields i
-    go (clear i) = ends clear-fields i
-    go (send i) = ends send-fields i
-    go (output i) = ends output-fields i
 
 record-next : (w : List ℕ) {s : Step} {next : ℕ} → readAt w 0 ≡ Found s next → next ≡ recordLength w
 record-next [] r = let z : _≡_ {A = ℕ} 0 1 = cc (sym (read-past [] 0 (omega arith)) ∙ r) in absurd (omega arith)
