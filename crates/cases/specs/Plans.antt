@@ -11,7 +11,7 @@ use Rattle.refusal.specs.declared.Answer.the-variants.{Accepted}
 use Rattle.node.specs.declared.Node.{Node}
 use Rattle.node.specs.Sizes.{nodeFloats, nodeWords}
 use Rattle.node.specs.Nodes.{newNode, setNode, finishBlock, gainOf, factor, zeroNode}
-use Rattle.node.specs.Areas.{nodeAt, floatsOf, wordsOf, someBad, badNode}
+use Rattle.node.specs.Areas.{nodeAt, floatsOf, wordsOf, someBad, outOfRange}
 use Rattle.mix.specs.Samples.{sampled}
 use Rattle.mix.specs.Mix.{added, weighted, sent, columns, weighs}
 use Rattle.plan.specs.Limits.{unitLimits}
@@ -26,7 +26,7 @@ use Rattle.trace.specs.declared.Sources.{Sources}
 use Rattle.run.specs.Run.{processed}
 use Rattle.run.specs.Calls.{afterAll, run}
 use Rattle.run.specs.Calls.{Call as RunCall}
-use Rattle.theorem.specs.Builds.{Build, grown, acceptedCalls, fixed, changing}
+use Rattle.theorem.specs.Builds.{Build, afterCalls, acceptedCalls, fixed, changing}
 use Rattle.theorem.specs.Journal.{Entry, setting, ran, journal}
 use Rattle.cases.specs.Numbers.{plusZero}
 
@@ -95,11 +95,11 @@ outputs (ran directory samples out ∷ es) = out ∷ outputs es
 -- Every call of the build is accepted, and the calls after it write these blocks, one for each accepted run. Unfolding it opens all that
 -- they compute with.
 unfoldable pub Writes : Build → List RunCall → List (List Float) → Type 0
-unfolding ones onesIn add sub mul div eq ofInt ofBits newNode setNode finishBlock gainOf factor nodeAt floatsOf wordsOf someBad badNode stepOf decodedFrom decoded someFrom idAmong idTwice outsideBy has meet shares stepsTests newAnswer buffersIndices coefficientsArea nodeFloatsArea nodeWordsArea stepArea finishArea sampled added weighted sent columns weighs processed
+unfolding ones onesIn add sub mul div eq ofInt ofBits newNode setNode finishBlock gainOf factor nodeAt floatsOf wordsOf someBad outOfRange stepOf decodedFrom decoded someFrom idAmong idTwice outsideBy has meet shares stepsTests newAnswer buffersIndices coefficientsArea nodeFloatsArea nodeWordsArea stepArea finishArea sampled added weighted sent columns weighs processed
 Writes b calls blocks =
     (acceptedCalls b ≡ b .calls)
     × (newAnswer (b .block) ≡ Accepted)
-    × (finishAnswer unitLimits (grown b .plan) (length (b .lent .buffers)) ≡ Accepted)
+    × (finishAnswer unitLimits (afterCalls b .plan) (length (b .lent .buffers)) ≡ Accepted)
     × (outputs (journal (fixed b) (changing b) calls) ≡ blocks)
 
 -- the node after the calls

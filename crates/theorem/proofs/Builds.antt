@@ -22,7 +22,7 @@ use Rattle.builder.proofs.Kept.{accepted-kept}
 use Rattle.builder.proofs.Outcomes.{plan-accepted}
 use Rattle.builder.proofs.Fits.{node-fits}
 use Rattle.builder.proofs.ReadBack.{read-back}
-use Rattle.theorem.specs.Builds.{Build, unitCalls, begun, grown, acceptedCalls, NoRampBuilt}
+use Rattle.theorem.specs.Builds.{Build, unitCalls, begun, afterCalls, acceptedCalls, NoRampBuilt}
 use Rattle.theorem.proofs.Nodes.{AtRest}
 use Rattle.theorem.proofs.Answers.{LaidOut, SameAnswers, same-answers}
 
@@ -39,7 +39,7 @@ module _ (P : BuilderState → Type 0) (keeps : (l : Limits) (s : BuilderState) 
   all-keep [] s p = p
   all-keep (c ∷ cs) s p = all-keep cs (after (c .limits) s (c .call)) (one-keeps (c .limits) s (c .call) p)
 
-pub block-kept : (b : Build) → grown b .plan .block ≡ b .block
+pub block-kept : (b : Build) → afterCalls b .plan .block ≡ b .block
 block-kept b = all-keep (λ (s : BuilderState). s .plan .block ≡ b .block) (λ l s c e p. accepted-kept l s c e .block ∙ p) (unitCalls (b .calls)) (begun b) refl
 
 abbrev NodeRoom : BuilderState → Type 0
@@ -57,10 +57,10 @@ room-kept l s (step w) e r = rw (plan-accepted (s .plan) (stepGrowth (recordLeng
 abbrev pub draft : Build → Draft
 draft b = drafted noDraft (acceptedCalls b)
 
-pub is-drafted : (b : Build) → Drafted (grown b) (draft b)
+pub is-drafted : (b : Build) → Drafted (afterCalls b) (draft b)
 is-drafted b = read-back (b .block) (begun b) refl (unitCalls (b .calls))
 
-placed : (b : Build) → newAnswer (b .block) ≡ Accepted → LaidOut (grown b) (draft b)
+placed : (b : Build) → newAnswer (b .block) ≡ Accepted → LaidOut (afterCalls b) (draft b)
 unfolding newAnswer
 placed b e =
     record {
@@ -85,16 +85,16 @@ drafted-rest (node id values ramp ∷ cs) d r f =
     drafted-rest cs (given d (node id values ramp)) (snoc-rest (d .nodes) (newNode id values ramp) r (left-new id values ramp ∙ f .0)) (f .1)
 drafted-rest (step w ∷ cs) d r f = drafted-rest cs (given d (step w)) r f
 
-pub built-rest : (b : Build) → NoRampBuilt (acceptedCalls b) → AtRest (nodes (grown b .plan .nodes) (grown b .floats) (grown b .words))
+pub built-rest : (b : Build) → NoRampBuilt (acceptedCalls b) → AtRest (nodes (afterCalls b .plan .nodes) (afterCalls b .floats) (afterCalls b .words))
 built-rest b f = rw (is-drafted b .nodes) (drafted-rest (acceptedCalls b) noDraft (λ n. refl) f)
 
 -- ---- two builds of the same accepted calls
 module _ (b₁ b₂ : Build) (e : acceptedCalls b₁ ≡ acceptedCalls b₂) where
   -- the draft of the first is that of the second too
-  pub drafted-too : Drafted (grown b₂) (draft b₁)
-  drafted-too = subst (λ (cs : List BuilderCall). Drafted (grown b₂) (drafted noDraft cs)) (sym e) (is-drafted b₂)
+  pub drafted-too : Drafted (afterCalls b₂) (draft b₁)
+  drafted-too = subst (λ (cs : List BuilderCall). Drafted (afterCalls b₂) (drafted noDraft cs)) (sym e) (is-drafted b₂)
 
-  pub builds-answer : newAnswer (b₁ .block) ≡ Accepted → newAnswer (b₂ .block) ≡ Accepted → SameAnswers (grown b₁) (grown b₂)
+  pub builds-answer : newAnswer (b₁ .block) ≡ Accepted → newAnswer (b₂ .block) ≡ Accepted → SameAnswers (afterCalls b₁) (afterCalls b₂)
   builds-answer new₁ new₂ =
-      same-answers (grown b₁) (grown b₂) (draft b₁) (placed b₁ new₁)
-      (subst (λ (cs : List BuilderCall). LaidOut (grown b₂) (drafted noDraft cs)) (sym e) (placed b₂ new₂))
+      same-answers (afterCalls b₁) (afterCalls b₂) (draft b₁) (placed b₁ new₁)
+      (subst (λ (cs : List BuilderCall). LaidOut (afterCalls b₂) (drafted noDraft cs)) (sym e) (placed b₂ new₂))

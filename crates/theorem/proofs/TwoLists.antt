@@ -1,7 +1,7 @@
 -- The two-list theorem: demand 3 as specs/Statement.antt has it. Two builds of the same accepted calls hold one draft, so it is what `drafts-agree`
 -- says of them. Assumes nothing.
 use Prim.Native.Nat.{ℕ}
-use Rattle.theorem.specs.Builds.{grown, fixed, changing}
+use Rattle.theorem.specs.Builds.{afterCalls, fixed, changing}
 use Rattle.theorem.specs.Statement.{Lists, a, b, Given, ListedCarryEqual, SameOutput}
 use Rattle.theorem.proofs.CleanPlans.{clean-sound}
 use Rattle.theorem.proofs.OneDraft.{drafts-agree}
@@ -18,7 +18,7 @@ two-lists l given =
     (record {
       first-block = block-kept x;
       second-block = block-kept y;
-      one-draft = one-draft (grown x) (grown y) (draft x) (is-drafted x) (drafted-too x y (given .same-calls)) inside (changing x .buffers) (changing y .buffers);
+      one-draft = one-draft (afterCalls x) (afterCalls y) (draft x) (is-drafted x) (drafted-too x y (given .same-calls)) inside (changing x .buffers) (changing y .buffers);
       clean = given .clean;
       same-total = given .same-total;
       alike = given .alike;

@@ -31,8 +31,8 @@ begun b =
       steps = b .lent .stepWords;
     }
 
-abbrev pub grown : Build → BuilderState
-grown b = built (begun b) (unitCalls (b .calls))
+abbrev pub afterCalls : Build → BuilderState
+afterCalls b = built (begun b) (unitCalls (b .calls))
 
 -- the calls that were accepted, in order
 abbrev pub acceptedCalls : Build → List BuilderCall
@@ -41,14 +41,14 @@ acceptedCalls b = accepted (begun b) (unitCalls (b .calls))
 -- `new` and `finish` are accepted
 pub record Finished (b : Build) : Type 0 where
   pub new : newAnswer (b .block) ≡ Accepted
-  pub finish : finishAnswer unitLimits (grown b .plan) (length (b .lent .buffers)) ≡ Accepted
+  pub finish : finishAnswer unitLimits (afterCalls b .plan) (length (b .lent .buffers)) ≡ Accepted
 
 -- "each list starts at the plan that `finish` left": its record and the areas that no later call writes, and those that later calls write
 abbrev pub fixed : Build → Fixed
-fixed b = record { plan = grown b .plan; indices = grown b .indices; coefficients = grown b .coefficients; steps = grown b .steps }
+fixed b = record { plan = afterCalls b .plan; indices = afterCalls b .indices; coefficients = afterCalls b .coefficients; steps = afterCalls b .steps }
 
 abbrev pub changing : Build → Changing
-changing b = record { floats = grown b .floats; words = grown b .words; buffers = finishArea unitLimits (grown b .plan) (b .lent .buffers) }
+changing b = record { floats = afterCalls b .floats; words = afterCalls b .words; buffers = finishArea unitLimits (afterCalls b .plan) (b .lent .buffers) }
 
 -- every ramp given to the builder is 0
 abbrev pub NoRampBuilt : List BuilderCall → Type 0
