@@ -8,17 +8,18 @@ use Prim.Native.Nat.{ℕ, _≤_}
 use native.Mathlib.Omega.{arith}
 use lib.ListN.{length}
 use Rattle.lists.specs.Entries.{has}
-use Rattle.lists.proofs.Bools.{or-none}
-use Rattle.refusal.specs.Tests.{outcome, NoneHolds}
+use Rattle.lists.proofs.Bools.{or-none, none-or}
+use Rattle.refusal.specs.Tests.{Test, first, outcome, NoneHolds}
 use Rattle.refusal.specs.declared.Answer.{Answer}
 use Rattle.refusal.specs.declared.Answer.the-variants.{Accepted, Refused}
 use Rattle.refusal.proofs.Laws.{outcome-accepted, outcome-refused}
 use Rattle.node.specs.Nodes.{newNode}
+use Rattle.node.proofs.Kept.{id-new}
 use Rattle.plan.specs.declared.Plan.{Plan}
 use Rattle.plan.specs.declared.Limits.{Limits}
 use Rattle.plan.specs.Check.{idAmong}
 use Rattle.builder.specs.declared.Growth.{Growth}
-use Rattle.builder.specs.Growth.{grown, limitTests, growsPast, buffersGrowth, coefficientsGrowth, nodeGrowth, stepGrowth}
+use Rattle.builder.specs.Growth.{Lengths, grown, limitTests, growsPast, growthTests, buffersGrowth, coefficientsGrowth, nodeGrowth, stepGrowth}
 use Rattle.builder.specs.Calls.{lentIndices, buffersAnswer, lentCoefficients, coefficientsAnswer, lentNodes, nodeOwn, nodeAnswer, recordLength, lentSteps, stepOwn, stepAnswer}
 use Rattle.builder.specs.Built.{BuilderCall, buffers, coefficients, node, step, Asked, asked, BuilderState, answer, after, built, accepted}
 use Rattle.builder.specs.Sums.{sum, noGrowth, growthOf, growthOfAll, idOf, idsOf, idsTaken, lengths, Fit, Good, AllGood}
@@ -27,28 +28,29 @@ use Rattle.builder.proofs.Limits.{growth-exactly}
 use Rattle.builder.proofs.Outcomes.{plan-accepted, words-accepted}
 use Rattle.builder.proofs.Refusals.{refused-nothing}
 use Rattle.builder.proofs.Kept.{accepted-kept}
-use Rattle.builder.proofs.Sums.{Splits, limits-sum, past-sum, grown-sum, new-id, join, ids-stored}
+use Rattle.builder.proofs.Sums.{Splits, limits-sum, past-sum, grown-sum, ids-stored}
 
 -- ---- one call
 
 module _ (l : Limits) (s : BuilderState) where
   one-taken : (id : ℕ) → (idsTaken (s .words) (s .plan .nodes) (id ∷ []) ≡ false) ↔ (idAmong (s .words) (s .plan .nodes) id ≡ false)
   unfolding has
-  one-taken id = (λ e. or-none (idAmong (s .words) (s .plan .nodes) id) (false || false) e .0, λ e. join {a = idAmong (s .words) (s .plan .nodes) id} e refl)
+  one-taken id = (λ e. or-none (idAmong (s .words) (s .plan .nodes) id) (false || false) e .0, λ e. none-or (idAmong (s .words) (s .plan .nodes) id) _ e refl)
+
+  -- a call that gives no id, and is lent the areas that its growth asks for
+  without-id : (g : Growth) (lent : Lengths) (own : List Test) → growsPast (s .plan) g lent ≡ growsPast (s .plan) g (lengths s)
+      → (first (growthTests l (s .plan) g lent own) Accepted ≡ Accepted) ↔ (Fit l s g [] × NoneHolds own)
+  without-id g lent own same =
+      let x = growth-exactly l (s .plan) g lent own in (
+        λ e. let h = x .0 e in (record { limits = h .0; areas = sym same ∙ h .1 .0; new = refl }, h .1 .1),
+        λ f. x .1 (f .0 .limits, (same ∙ f .0 .areas, f .1)),
+      )
 
   -- accepted exactly where its growth and its id fit, and it is good in itself
   pub call-exactly : (c : BuilderCall) → (answer l s c ≡ Accepted) ↔ (Fit l s (growthOf c) (idOf c) × Good c)
   unfolding buffersAnswer coefficientsAnswer nodeAnswer stepAnswer
-  call-exactly (buffers n) =
-      let x = growth-exactly l (s .plan) (buffersGrowth n) (lentIndices (length (s .indices))) [] in (
-        λ e. let h = x .0 e in (record { limits = h .0; areas = h .1 .0; new = refl }, tt),
-        λ f. x .1 (f .0 .limits, (f .0 .areas, tt)),
-      )
-  call-exactly (coefficients xs) =
-      let x = growth-exactly l (s .plan) (coefficientsGrowth (length xs)) (lentCoefficients (length (s .coefficients))) [] in (
-        λ e. let h = x .0 e in (record { limits = h .0; areas = h .1 .0; new = refl }, tt),
-        λ f. x .1 (f .0 .limits, (f .0 .areas, tt)),
-      )
+  call-exactly (buffers n) = without-id (buffersGrowth n) (lentIndices (length (s .indices))) [] refl
+  call-exactly (coefficients xs) = without-id (coefficientsGrowth (length xs)) (lentCoefficients (length (s .coefficients))) [] refl
   call-exactly (node id xs ramp) =
       let x = growth-exactly l (s .plan) nodeGrowth (lentNodes (length (s .floats)) (length (s .words))) (nodeOwn (s .plan) id (length xs) ramp (s .words)) in (
         λ e.
@@ -57,11 +59,7 @@ module _ (l : Limits) (s : BuilderState) where
             (record { limits = h .0; areas = h .1 .0; new = one-taken id .1 (own .1 .0) }, (own .0, own .1 .1 .0)),
         λ f. x .1 (f .0 .limits, (f .0 .areas, (f .1 .0, (one-taken id .0 (f .0 .new), (f .1 .1, tt))))),
       )
-  call-exactly (step w) =
-      let x = growth-exactly l (s .plan) (stepGrowth (recordLength w)) (lentSteps (length (s .steps))) (stepOwn w) in (
-        λ e. let h = x .0 e in (record { limits = h .0; areas = h .1 .0; new = refl }, h .1 .1),
-        λ f. x .1 (f .0 .limits, (f .0 .areas, f .1)),
-      )
+  call-exactly (step w) = without-id (stepGrowth (recordLength w)) (lentSteps (length (s .steps))) (stepOwn w) refl
 
   plan-after : (c : BuilderCall) → answer l s c ≡ Accepted → after l s c .plan ≡ grown (s .plan) (growthOf c)
   plan-after (buffers n) e = plan-accepted (s .plan) (buffersGrowth n) e
@@ -91,7 +89,7 @@ module _ (l : Limits) (s : BuilderState) where
       let n = s .plan .nodes in
       let x = newNode id xs ramp in
       let f = node-fits l (s .plan) id (length xs) ramp (length (s .floats)) words e in
-      let own : has ids (x .id) ≡ has ids id = ap (has ids) (new-id id xs ramp) in
+      let own : has ids (x .id) ≡ has ids id = ap (has ids) (id-new id xs ramp) in
       let after-it = ids-stored words n x (f .words) ids in
       rw (plan-accepted (s .plan) nodeGrowth e, words-accepted l (s .plan) id xs ramp (s .floats) words e) (
         λ h.
@@ -100,7 +98,7 @@ module _ (l : Limits) (s : BuilderState) where
             (one-taken id .1 (u .0), after-it .1 (own ∙ v .0, v .1)),
         λ h.
             let v = after-it .0 (h .1) in
-            join {a = idAmong words n id} (one-taken id .0 (h .0)) (join {a = has ids id} (sym own ∙ v .0) (v .1)),
+            none-or (idAmong words n id) _ (one-taken id .0 (h .0)) (none-or (has ids id) _ (sym own ∙ v .0) (v .1)),
       )
   ids-after (step w) ids e = rw (plan-accepted (s .plan) (stepGrowth (recordLength w)) e) (λ h. (refl, h), λ h. h .1)
 
@@ -158,7 +156,7 @@ own-new : (words : List ℕ) (n : ℕ) (c : BuilderCall) (ids : List ℕ) → id
 unfolding has
 own-new words n (buffers m) ids e = refl
 own-new words n (coefficients xs) ids e = refl
-own-new words n (node id xs ramp) ids e = join {a = idAmong words n id} (or-none (idAmong words n id) (has ids id || idsTaken words n ids) e .0) refl
+own-new words n (node id xs ramp) ids e = none-or (idAmong words n id) _ (or-none (idAmong words n id) (has ids id || idsTaken words n ids) e .0) refl
 own-new words n (step w) ids e = refl
 
 module _ (l : Limits) where

@@ -2,7 +2,7 @@
 -- other; and likewise ids that are new before a node is stored, and after it. Assumes nothing.
 use mathlib.Core.Path.{_≡_, refl, sym, ap, _∙_}
 use mathlib.Core.Logic.{_↔_}
-use mathlib.Core.Bool.{Bool, true, false, _||_}
+use mathlib.Core.Bool.{Bool, false, _||_}
 use mathlib.Core.List.{List, [], _∷_}
 use Prim.Native.Nat.{ℕ, _+_, _*_, _<_, _≤_}
 use native.Mathlib.Nat.{mul-le-mul-right, add-zero, add-assoc}
@@ -10,14 +10,12 @@ use native.Mathlib.Decide.{decLt}
 use native.Mathlib.Omega.{arith}
 use lib.Dec.{ltb, eqb}
 use lib.ListN.{length}
-use lib.Ieee.{Float}
 use borrow.Author.Tests.{ltb-false, le-ltb, eqb-false, ne-eqb}
 use Rattle.lists.specs.Entries.{has}
-use Rattle.lists.proofs.Bools.{or-none}
+use Rattle.lists.proofs.Bools.{or-none, none-or}
 use Rattle.refusal.specs.Tests.{NoneHolds}
 use Rattle.node.specs.declared.Node.{Node}
 use Rattle.node.specs.Sizes.{nodeFloats, nodeWords}
-use Rattle.node.specs.Nodes.{newNode, setNode}
 use Rattle.node.specs.Areas.{idAt, storedWords}
 use Rattle.node.proofs.Areas.{id-stored, word-other}
 use Rattle.plan.specs.declared.Plan.{Plan}
@@ -71,50 +69,33 @@ short-more len each k n e =
     let less : k * each ≤ (k + n) * each = mul-le-mul-right each (omega arith) in
     le-ltb len (k * each) (omega (arith, ltb-false len ((k + n) * each) e, less))
 
-five : {a b c d e : Bool} → ((a || b || c || d || e) ≡ false) ↔ ((a ≡ false) × ((b ≡ false) × ((c ≡ false) × ((d ≡ false) × (e ≡ false)))))
-five = (
-  λ z.
-      let s₄ = or-none _ _ z in
-      let s₃ = or-none _ _ (s₄ .0) in
-      let s₂ = or-none _ _ (s₃ .0) in
-      let s₁ = or-none _ _ (s₂ .0) in
-      (s₁ .0, (s₁ .1, (s₂ .1, (s₃ .1, s₄ .1)))),
-  λ h. rw (h .0, h .1 .0, h .1 .1 .0, h .1 .1 .1 .0) (h .1 .1 .1 .1),
-)
-
 -- a test of a sum, and those of its two parts
 abbrev pub Splits : Bool → Bool → Bool → Type 0
 Splits x y z = (x ≡ false) ↔ ((y ≡ false) × (z ≡ false))
 
-five-split : {x₁ x₂ x₃ x₄ x₅ y₁ y₂ y₃ y₄ y₅ z₁ z₂ z₃ z₄ z₅ : Bool} → Splits x₁ y₁ z₁ → Splits x₂ y₂ z₂ → Splits x₃ y₃ z₃ → Splits x₄ y₄ z₄ → Splits x₅ y₅ z₅
-    → Splits (x₁ || x₂ || x₃ || x₄ || x₅) (y₁ || y₂ || y₃ || y₄ || y₅) (z₁ || z₂ || z₃ || z₄ || z₅)
-five-split s₁ s₂ s₃ s₄ s₅ = (
+-- so of two tests, either of which refuses
+infixl 5 _or_
+_or_ : {x₁ x₂ y₁ y₂ z₁ z₂ : Bool} → Splits x₁ y₁ z₁ → Splits x₂ y₂ z₂ → Splits (x₁ || x₂) (y₁ || y₂) (z₁ || z₂)
+_or_ s t = (
   λ e.
-      let x = five .0 e in
-      let a = s₁ .0 (x .0) in
-      let b = s₂ .0 (x .1 .0) in
-      let c = s₃ .0 (x .1 .1 .0) in
-      let d = s₄ .0 (x .1 .1 .1 .0) in
-      let f = s₅ .0 (x .1 .1 .1 .1) in
-      (five .1 (a .0, (b .0, (c .0, (d .0, f .0)))), five .1 (a .1, (b .1, (c .1, (d .1, f .1))))),
+      let x = or-none _ _ e in
+      let a = s .0 (x .0) in
+      let b = t .0 (x .1) in
+      (none-or _ _ (a .0) (b .0), none-or _ _ (a .1) (b .1)),
   λ h.
-      let y = five .0 (h .0) in
-      let z = five .0 (h .1) in
-      five .1 (
-        s₁ .1 (y .0, z .0),
-        (s₂ .1 (y .1 .0, z .1 .0), (s₃ .1 (y .1 .1 .0, z .1 .1 .0), (s₄ .1 (y .1 .1 .1 .0, z .1 .1 .1 .0), s₅ .1 (y .1 .1 .1 .1, z .1 .1 .1 .1)))),
-      ),
+      let y = or-none _ _ (h .0) in
+      let z = or-none _ _ (h .1) in
+      none-or _ _ (s .1 (y .0, z .0)) (t .1 (y .1, z .1)),
 )
 
 module _ (p : Plan) (g h : Growth) where
   over-sum : (l : Limits) → Splits (growsOver l p (sum g h)) (growsOver l p g) (growsOver l (grown p g) h)
   over-sum l =
-      five-split
-      (tested-sum (ltb (l .buffers)) (over-more (l .buffers)) (p .buffers) (g .buffers) (h .buffers))
-      (tested-sum (ltb (l .indices)) (over-more (l .indices)) (p .indices) (g .indices) (h .indices))
-      (tested-sum (ltb (l .coefficients)) (over-more (l .coefficients)) (p .coefficients) (g .coefficients) (h .coefficients))
-      (tested-sum (ltb (l .nodes)) (over-more (l .nodes)) (p .nodes) (g .nodes) (h .nodes))
-      (tested-sum (ltb (l .steps)) (over-more (l .steps)) (p .steps) (g .steps) (h .steps))
+      tested-sum (ltb (l .buffers)) (over-more (l .buffers)) (p .buffers) (g .buffers) (h .buffers)
+      or tested-sum (ltb (l .indices)) (over-more (l .indices)) (p .indices) (g .indices) (h .indices)
+      or tested-sum (ltb (l .coefficients)) (over-more (l .coefficients)) (p .coefficients) (g .coefficients) (h .coefficients)
+      or tested-sum (ltb (l .nodes)) (over-more (l .nodes)) (p .nodes) (g .nodes) (h .nodes)
+      or tested-sum (ltb (l .steps)) (over-more (l .steps)) (p .steps) (g .steps) (h .steps)
 
   pub limits-sum : (l : Limits) → NoneHolds (limitTests l p (sum g h)) ↔ (NoneHolds (limitTests l p g) × NoneHolds (limitTests l (grown p g) h))
   limits-sum l = (
@@ -127,25 +108,13 @@ module _ (p : Plan) (g h : Growth) where
 
   pub past-sum : (z : Lengths) → Splits (growsPast p (sum g h) z) (growsPast p g z) (growsPast (grown p g) h z)
   past-sum z =
-      five-split
-      (short-sum (z .indices) 1 (p .indices) (g .indices) (h .indices))
-      (short-sum (z .coefficients) 1 (p .coefficients) (g .coefficients) (h .coefficients))
-      (short-sum (z .nodeFloats) nodeFloats (p .nodes) (g .nodes) (h .nodes))
-      (short-sum (z .nodeWords) nodeWords (p .nodes) (g .nodes) (h .nodes))
-      (short-sum (z .stepWords) 1 (p .words) (g .words) (h .words))
+      short-sum (z .indices) 1 (p .indices) (g .indices) (h .indices)
+      or short-sum (z .coefficients) 1 (p .coefficients) (g .coefficients) (h .coefficients)
+      or short-sum (z .nodeFloats) nodeFloats (p .nodes) (g .nodes) (h .nodes)
+      or short-sum (z .nodeWords) nodeWords (p .nodes) (g .nodes) (h .nodes)
+      or short-sum (z .stepWords) 1 (p .words) (g .words) (h .words)
 
 -- ---- ids that are new before a node is stored, and after it
-
-pub new-id : (id : ℕ) (xs : List Float) (ramp : ℕ) → newNode id xs ramp .id ≡ id
-unfolding newNode setNode
-new-id id xs ramp = go (eqb ramp 0) refl
-  where
-    go : (b : Bool) → eqb ramp 0 ≡ b → newNode id xs ramp .id ≡ id
-    go true e = rw e refl
-    go false e = rw e refl
-
-pub join : {a b : Bool} → a ≡ false → b ≡ false → (a || b) ≡ false
-join e f = rw e f
 
 module _ (words : List ℕ) (n : ℕ) (x : Node) (room : (n + 1) * nodeWords ≤ length words) where
   abbrev stored : List ℕ
@@ -179,10 +148,10 @@ module _ (words : List ℕ) (n : ℕ) (x : Node) (room : (n + 1) * nodeWords ≤
         let v = or-none (has js j) (idsTaken stored (n + 1) js) (u .1) in
         let a = among-stored j .0 (u .0) in
         let b = ids-stored js .0 (v .1) in
-        (join {a = eqb j (x .id)} (ne-eqb j (x .id) (a .0)) (b .0), join {a = idAmong words n j} (a .1) (join {a = has js j} (v .0) (b .1))),
+        (none-or (eqb j (x .id)) _ (ne-eqb j (x .id) (a .0)) (b .0), none-or (idAmong words n j) _ (a .1) (none-or (has js j) _ (v .0) (b .1))),
     λ h.
         let u = or-none (eqb j (x .id)) (has js (x .id)) (h .0) in
         let v = or-none (idAmong words n j) (has js j || idsTaken words n js) (h .1) in
         let w = or-none (has js j) (idsTaken words n js) (v .1) in
-        join {a = idAmong stored (n + 1) j} (among-stored j .1 (eqb-false j (x .id) (u .0), v .0)) (join {a = has js j} (w .0) (ids-stored js .1 (u .1, w .1))),
+        none-or (idAmong stored (n + 1) j) _ (among-stored j .1 (eqb-false j (x .id) (u .0), v .0)) (none-or (has js j) _ (w .0) (ids-stored js .1 (u .1, w .1))),
   )

@@ -11,6 +11,10 @@ pub or-none : (a b : Bool) → (a || b) ≡ false → (a ≡ false) × (b ≡ fa
 or-none true b e = absurd (true≢false e)
 or-none false b e = (refl, e)
 
+pub none-or : (a b : Bool) → a ≡ false → b ≡ false → (a || b) ≡ false
+none-or true b e f = absurd (true≢false e)
+none-or false b e f = f
+
 pub or-some : (a b : Bool) → (a || b) ≡ true → (a ≡ true) ⊎ (b ≡ true)
 or-some true b e = inl refl
 or-some false b e = inr e

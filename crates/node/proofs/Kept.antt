@@ -75,5 +75,9 @@ len-finish n block = of-finish (λ (x : Node). x .len ≡ n .len) n block refl r
 pub id-set : (n : Node) (values : List Float) (r : ℕ) → setNode n values r .id ≡ n .id
 id-set n values r = of-set (λ (x : Node). x .id ≡ n .id) n values r refl refl
 
+pub id-new : (id : ℕ) (values : List Float) (r : ℕ) → newNode id values r .id ≡ id
+unfolding newNode
+id-new id values r = id-set (zeroNode id (min (length values) maxValues)) values r
+
 pub id-finish : (n : Node) (block : ℕ) → finishBlock n block .id ≡ n .id
 id-finish n block = of-finish (λ (x : Node). x .id ≡ n .id) n block refl refl (λ (m : ℕ). refl)
