@@ -22,7 +22,7 @@ use Rattle.builder.specs.declared.Growth.{Growth}
 use Rattle.builder.specs.Growth.{Lengths, grown, limitTests, growsPast, growthTests, buffersGrowth, coefficientsGrowth, nodeGrowth, stepGrowth}
 use Rattle.builder.specs.Calls.{lentIndices, buffersAnswer, lentCoefficients, coefficientsAnswer, lentNodes, nodeOwn, nodeAnswer, recordLength, lentSteps, stepOwn, stepAnswer}
 use Rattle.builder.specs.Built.{BuilderCall, buffers, coefficients, node, step, Asked, asked, BuilderState, answer, after, built, accepted}
-use Rattle.builder.specs.Sums.{sum, noGrowth, growthOf, growthOfAll, idOf, idsOf, idsTaken, lengths, Fit, Good, AllGood}
+use Rattle.builder.specs.Sums.{sum, noGrowth, growthOf, growthOfAll, idOf, idsOf, idsTaken, lengths, FitsAsOne, Good, AllGood}
 use Rattle.builder.proofs.Fits.{node-fits}
 use Rattle.builder.proofs.Limits.{growth-exactly}
 use Rattle.builder.proofs.Outcomes.{plan-accepted, words-accepted}
@@ -39,7 +39,7 @@ module _ (l : Limits) (s : BuilderState) where
 
   -- a call that gives no id, and is lent the areas that its growth asks for
   without-id : (g : Growth) (lent : Lengths) (own : List Test) → growsPast (s .plan) g lent ≡ growsPast (s .plan) g (lengths s)
-      → (first (growthTests l (s .plan) g lent own) Accepted ≡ Accepted) ↔ (Fit l s g [] × NoneHolds own)
+      → (first (growthTests l (s .plan) g lent own) Accepted ≡ Accepted) ↔ (FitsAsOne l s g [] × NoneHolds own)
   without-id g lent own same =
       let x = growth-exactly l (s .plan) g lent own in (
         λ e. let h = x .0 e in (record { limits = h .0; areas = sym same ∙ h .1 .0; new = refl }, h .1 .1),
@@ -47,7 +47,7 @@ module _ (l : Limits) (s : BuilderState) where
       )
 
   -- accepted exactly where its growth and its id fit, and it is good in itself
-  pub call-exactly : (c : BuilderCall) → (answer l s c ≡ Accepted) ↔ (Fit l s (growthOf c) (idOf c) × Good c)
+  pub call-exactly : (c : BuilderCall) → (answer l s c ≡ Accepted) ↔ (FitsAsOne l s (growthOf c) (idOf c) × Good c)
   unfolding buffersAnswer coefficientsAnswer nodeAnswer stepAnswer
   call-exactly (buffers n) = without-id (buffersGrowth n) (lentIndices (length (s .indices))) [] refl
   call-exactly (coefficients xs) = without-id (coefficientsGrowth (length xs)) (lentCoefficients (length (s .coefficients))) [] refl
@@ -103,7 +103,7 @@ module _ (l : Limits) (s : BuilderState) where
   ids-after (step w) ids e = rw (plan-accepted (s .plan) (stepGrowth (recordLength w)) e) (λ h. (refl, h), λ h. h .1)
 
   -- so of an accepted call: what fits with it fits after it
-  fit-after : (c : BuilderCall) (g : Growth) (ids : List ℕ) → answer l s c ≡ Accepted → Fit l s (sum (growthOf c) g) (idOf c ++ ids) ↔ Fit l (after l s c) g ids
+  fit-after : (c : BuilderCall) (g : Growth) (ids : List ℕ) → answer l s c ≡ Accepted → FitsAsOne l s (sum (growthOf c) g) (idOf c ++ ids) ↔ FitsAsOne l (after l s c) g ids
   fit-after c g ids e =
       let own = call-exactly c .0 e .0 in
       let p = plan-after c e in
@@ -167,10 +167,10 @@ module _ (l : Limits) where
   taken s c cs e = outcome-accepted (answer l s c) (c ∷ acceptedBy (after l s c) cs) (λ _. acceptedBy (after l s c) cs) e
 
   -- all accepted: where the calls fit as one, and each is good in itself
-  pub all-accepted : (cs : List BuilderCall) (s : BuilderState) → Fit l s (growthOfAll cs) (idsOf cs) → AllGood cs → accepted s (map (asked l) cs) ≡ cs
+  pub all-accepted : (cs : List BuilderCall) (s : BuilderState) → FitsAsOne l s (growthOfAll cs) (idsOf cs) → AllGood cs → accepted s (map (asked l) cs) ≡ cs
   all-accepted [] s f g = refl
   all-accepted (c ∷ cs) s f g =
-      let own : Fit l s (growthOf c) (idOf c) = record {
+      let own : FitsAsOne l s (growthOf c) (idOf c) = record {
         limits = limits-sum (s .plan) (growthOf c) (growthOfAll cs) l .0 (f .limits) .0;
         areas = past-sum (s .plan) (growthOf c) (growthOfAll cs) (lengths s) .0 (f .areas) .0;
         new = own-new (s .words) (s .plan .nodes) c (idsOf cs) (f .new);
@@ -188,7 +188,7 @@ module _ (l : Limits) where
       go Accepted h = omega arith
       go (Refused r) h = omega arith
 
-  pub accepted-fit : (cs : List BuilderCall) (s : BuilderState) → accepted s (map (asked l) cs) ≡ cs → Fit l s (growthOfAll cs) (idsOf cs) × AllGood cs
+  pub accepted-fit : (cs : List BuilderCall) (s : BuilderState) → accepted s (map (asked l) cs) ≡ cs → FitsAsOne l s (growthOfAll cs) (idsOf cs) × AllGood cs
   accepted-fit [] s q = (record { limits = limits-none; areas = refl; new = refl }, tt)
     where
       limits-none : NoneHolds (limitTests l (s .plan) noGrowth)
@@ -198,8 +198,8 @@ module _ (l : Limits) where
       t : BuilderState
       t = after l s c
 
-      go : (a : Answer) → answer l s c ≡ a → (acceptedBy t cs ≡ cs → Fit l t (growthOfAll cs) (idsOf cs) × AllGood cs)
-          → Fit l s (growthOfAll (c ∷ cs)) (idsOf (c ∷ cs)) × AllGood (c ∷ cs)
+      go : (a : Answer) → answer l s c ≡ a → (acceptedBy t cs ≡ cs → FitsAsOne l t (growthOfAll cs) (idsOf cs) × AllGood cs)
+          → FitsAsOne l s (growthOfAll (c ∷ cs)) (idsOf (c ∷ cs)) × AllGood (c ∷ cs)
       go Accepted e ih =
           let rest = ih (tail-same c (acceptedBy t cs) cs (sym (taken s c cs e) ∙ q)) in
           (fit-after l s c (growthOfAll cs) (idsOf cs) e .1 (rest .0), (call-exactly l s c .0 e .1, rest .1))

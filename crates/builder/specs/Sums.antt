@@ -78,7 +78,7 @@ lengths s =
     }
 
 -- a growth, and nodes of these ids, meet neither 5 nor 2 nor 8
-pub record Fit (l : Limits) (s : BuilderState) (g : Growth) (ids : List ℕ) : Type 0 where
+pub record FitsAsOne (l : Limits) (s : BuilderState) (g : Growth) (ids : List ℕ) : Type 0 where
   pub limits : NoneHolds (limitTests l (s .plan) g)
   pub areas : growsPast (s .plan) g (lengths s) ≡ false
   pub new : idsTaken (s .words) (s .plan .nodes) ids ≡ false
