@@ -19,6 +19,7 @@ use Rattle.node.specs.Sizes.{nodeFloats, nodeWords}
 use Rattle.node.specs.Areas.{idAt, storedWords}
 use Rattle.node.proofs.Areas.{id-stored, word-other}
 use Rattle.plan.specs.declared.Plan.{Plan}
+use Rattle.plan.specs.PlanRecord.{planWith}
 use Rattle.plan.specs.declared.Limits.{Limits}
 use Rattle.plan.specs.Areas.{shorter}
 use Rattle.plan.specs.Check.{idAmong}
@@ -38,15 +39,13 @@ after-sum count (Add n) (Add m) = add-assoc count n m
 
 pub grown-sum : (p : Plan) (g h : Growth) → grown (grown p g) h ≡ grown p (sum g h)
 grown-sum p g h =
-    λ i. record {
-      block = p .block;
-      buffers = after-sum (p .buffers) (g .buffers) (h .buffers) i;
-      indices = after-sum (p .indices) (g .indices) (h .indices) i;
-      coefficients = after-sum (p .coefficients) (g .coefficients) (h .coefficients) i;
-      nodes = after-sum (p .nodes) (g .nodes) (h .nodes) i;
-      steps = after-sum (p .steps) (g .steps) (h .steps) i;
-      words = after-sum (p .words) (g .words) (h .words) i;
-    }
+    λ i. planWith (p .block)
+    (after-sum (p .buffers) (g .buffers) (h .buffers) i)
+    (after-sum (p .indices) (g .indices) (h .indices) i)
+    (after-sum (p .coefficients) (g .coefficients) (h .coefficients) i)
+    (after-sum (p .nodes) (g .nodes) (h .nodes) i)
+    (after-sum (p .steps) (g .steps) (h .steps) i)
+    (after-sum (p .words) (g .words) (h .words) i)
 
 -- ---- the tests of a sum
 

@@ -20,7 +20,7 @@ use Rattle.node.specs.Sizes.{nodeWords}
 use Rattle.node.specs.Areas.{idAt, nodeAt}
 use Rattle.node.proofs.Areas.{getD-nodes}
 use Rattle.plan.specs.declared.Plan.{Plan}
-use Rattle.plan.specs.PlanRecord.{withBlock}
+use Rattle.plan.specs.PlanRecord.{planWith, withBlock}
 use Rattle.plan.specs.declared.Step.{Step}
 use Rattle.plan.specs.declared.Step.the-variants.{Patch, Gain, Matrix, Clear, Send, Output}
 use Rattle.plan.specs.declared.Read.{Read}
@@ -155,15 +155,13 @@ module _ (s₁ s₂ : BuilderState) (d : Draft) (t₁ : LaidOut s₁ d) (t₂ : 
 
   same-record : s₂ .plan ≡ withBlock (s₁ .plan) (s₂ .plan .block)
   same-record =
-      λ i. record {
-        block = s₂ .plan .block;
-        buffers = (h₂ .buffers ∙ sym (h₁ .buffers)) i;
-        indices = (h₂ .index-count ∙ sym (h₁ .index-count)) i;
-        coefficients = (h₂ .coefficient-count ∙ sym (h₁ .coefficient-count)) i;
-        nodes = (h₂ .node-count ∙ sym (h₁ .node-count)) i;
-        steps = (h₂ .step-count ∙ sym (h₁ .step-count)) i;
-        words = (h₂ .word-count ∙ sym (h₁ .word-count)) i;
-      }
+      λ i. planWith (s₂ .plan .block)
+      ((h₂ .buffers ∙ sym (h₁ .buffers)) i)
+      ((h₂ .index-count ∙ sym (h₁ .index-count)) i)
+      ((h₂ .coefficient-count ∙ sym (h₁ .coefficient-count)) i)
+      ((h₂ .node-count ∙ sym (h₁ .node-count)) i)
+      ((h₂ .step-count ∙ sym (h₁ .step-count)) i)
+      ((h₂ .word-count ∙ sym (h₁ .word-count)) i)
 
   same-ids : (i : ℕ) → i < s₁ .plan .nodes → idAt (s₂ .words) i ≡ idAt (s₁ .words) i
   unfolding nodeAt
