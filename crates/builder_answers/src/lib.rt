@@ -16,7 +16,8 @@ use plan::Read;
 use refusal::Answer;
 use refusal::Refusal;
 ghost use mathlib.Core.Path.{_≡_};
-ghost use Prim.Native.Nat.{_≤_};
+ghost use Prim.Native.Nat.{_+_, _≤_};
+ghost use Rattle.plan.specs.Words.{maxFields};
 ghost use Rattle.builder.specs.Calls.{newAnswer, buffersAnswer, coefficientsAnswer, nodeAnswer, recordLength, stepAnswer, finishAnswer};
 
 pub fn new_answer(block: usize) -> Answer
@@ -87,7 +88,7 @@ pub fn node_answer(
 
 // The words of the record at the front of `words`: its map and its fields, or none where there is no map.
 pub fn record_length(words: &[u32]) -> usize
-    ensures { λ r. ⌜ (r ≡ recordLength (now (words .entry))) × (r ≤ 12) ⌝ }
+    ensures { λ r. ⌜ (r ≡ recordLength (now (words .entry))) × (r ≤ 1 + maxFields) ⌝ }
 {
     if words.len() == 0 {
         return 0;
