@@ -1,6 +1,6 @@
 //! What the file of `oracle record` must reach. Each name here was counted by a case, or the file is not written.
 use crate::mapping;
-use crate::mixer::FoldGains;
+use crate::mixer::{FoldGains, Span};
 use crate::ops::{Input, Setting};
 use crate::paper;
 use crate::plan::{Areas, Layout, Step, FLOATS, VALUES, WORDS};
@@ -243,53 +243,60 @@ impl Nodes<'_> {
         self.when(entries > 1, "Patch, two entries for the channel");
     }
 
+    fn gain(&mut self, node: u32, src: Span, dst: Span) {
+        self.when(dst.len > src.len, "Gain, dst longer than src");
+        self.when(src.len > dst.len, "Gain, src longer than dst");
+        self.when(src.len.min(dst.len) == 0, "Gain of no channels");
+        self.when(self.len(node) < src.len.min(dst.len), "Gain, node shorter than the channels");
+        self.when(src.len.min(dst.len) > 0 && self.uneven(), ONE_GAIN);
+        self.uses(node, GAIN);
+    }
+
+    fn matrix(&mut self, node: u32, src: Span, dst: Span, to: &[u32]) {
+        self.when(src.len == 0 && dst.len > 0, "Matrix without columns");
+        self.when(dst.len == 0 && src.len > 0, "Matrix without rows");
+        self.when(self.len(node) < src.len * dst.len, "Matrix, node shorter than its entries");
+        self.when((1..to.len()).any(|i| to[..i].contains(&to[i])), "Matrix, one buffer twice in dst");
+        if self.rests(node) {
+            let gains = self.target(node)[..(src.len * dst.len) as usize].to_vec();
+            let zeros = gains.iter().filter_map(|g| zero(*g, "Matrix at rest, a gain of 0", "Matrix at rest, a gain of -0"));
+            self.seen.extend(zeros);
+            self.when(self.rows(src.len, &gains, 2), TWO_COLUMNS);
+        }
+        self.when(src.len == 1 && dst.len > 0 && self.uneven(), OTHER_COLUMNS);
+        self.uses(node, MATRIX);
+    }
+
+    fn send(&mut self, node: u32, src: Span, to: &[u32], weights: &[f32]) {
+        let need = src.len as usize * to.len();
+        let used = &weights[..need];
+        self.when(need == 0, "Send of nothing");
+        self.when(weights.len() > need, "Send, more weights than it needs");
+        self.seen.extend(used.iter().filter_map(|w| zero(*w, "Send, a weight of 0", "Send, a weight of -0")));
+        let (one, two, rests) = (self.rows(src.len, used, 1), self.rows(src.len, used, 2), self.rests(node));
+        let four = src.len == 2 && to.len() == 2 && used.iter().all(|w| *w != 0.0);
+        let heard = rests && self.target(node)[0] != 0.0;
+        self.when(one && heard, ONE_AT_REST);
+        self.when(one && !rests, ONE_RAMPING);
+        self.when(two && !four && heard, TWO_AT_REST);
+        self.when(two && !rests, TWO_RAMPING);
+        self.when(four && self.uneven() && heard && to[0] != to[1], FOUR_AT_REST);
+        self.when(four && heard && to[0] == to[1], FOUR_TO_ONE);
+        if rests {
+            self.seen.extend(zero(self.target(node)[0], "Send at rest at 0", "Send at rest at -0"));
+        }
+        self.uses(node, SEND);
+    }
+
     fn step(&mut self, l: &Layout, s: &Step, input: &Input) {
+        let named = |span: Span| &l.index[span.start as usize..][..span.len as usize];
         match *s {
             Step::Patch { input: i, channel, .. } => self.patch(input, [i, channel]),
-            Step::Gain { node, src, dst } => {
-                self.when(dst.len > src.len, "Gain, dst longer than src");
-                self.when(src.len > dst.len, "Gain, src longer than dst");
-                self.when(src.len.min(dst.len) == 0, "Gain of no channels");
-                self.when(self.len(node) < src.len.min(dst.len), "Gain, node shorter than the channels");
-                self.when(src.len.min(dst.len) > 0 && self.uneven(), ONE_GAIN);
-                self.uses(node, GAIN);
-            }
-            Step::Matrix { node, src, dst } => {
-                let to = &l.index[dst.start as usize..][..dst.len as usize];
-                self.when(src.len == 0 && dst.len > 0, "Matrix without columns");
-                self.when(dst.len == 0 && src.len > 0, "Matrix without rows");
-                self.when(self.len(node) < src.len * dst.len, "Matrix, node shorter than its entries");
-                self.when((1..to.len()).any(|i| to[..i].contains(&to[i])), "Matrix, one buffer twice in dst");
-                if self.rests(node) {
-                    let gains = self.target(node)[..(src.len * dst.len) as usize].to_vec();
-                    let zeros = gains.iter().filter_map(|g| zero(*g, "Matrix at rest, a gain of 0", "Matrix at rest, a gain of -0"));
-                    self.seen.extend(zeros);
-                    self.when(self.rows(src.len, &gains, 2), TWO_COLUMNS);
-                }
-                self.when(src.len == 1 && dst.len > 0 && self.uneven(), OTHER_COLUMNS);
-                self.uses(node, MATRIX);
-            }
+            Step::Gain { node, src, dst } => self.gain(node, src, dst),
+            Step::Matrix { node, src, dst } => self.matrix(node, src, dst, named(dst)),
             Step::Clear { dst } => self.seen.push(if dst.len > 0 { "Clear" } else { "Clear of nothing" }),
             Step::Send { node, src, dst, weights } => {
-                let need = src.len * dst.len;
-                let used = &l.coefficients[weights.start as usize..][..need as usize];
-                self.when(need == 0, "Send of nothing");
-                self.when(weights.len > need, "Send, more weights than it needs");
-                self.seen.extend(used.iter().filter_map(|w| zero(*w, "Send, a weight of 0", "Send, a weight of -0")));
-                let to = &l.index[dst.start as usize..][..dst.len as usize];
-                let (one, two, rests) = (self.rows(src.len, used, 1), self.rows(src.len, used, 2), self.rests(node));
-                let four = src.len == 2 && dst.len == 2 && used.iter().all(|w| *w != 0.0);
-                let heard = rests && self.target(node)[0] != 0.0;
-                self.when(one && heard, ONE_AT_REST);
-                self.when(one && !rests, ONE_RAMPING);
-                self.when(two && !four && heard, TWO_AT_REST);
-                self.when(two && !rests, TWO_RAMPING);
-                self.when(four && self.uneven() && heard && to[0] != to[1], FOUR_AT_REST);
-                self.when(four && heard && to[0] == to[1], FOUR_TO_ONE);
-                if rests {
-                    self.seen.extend(zero(self.target(node)[0], "Send at rest at 0", "Send at rest at -0"));
-                }
-                self.uses(node, SEND);
+                self.send(node, src, named(dst), &l.coefficients[weights.start as usize..][..weights.len as usize]);
             }
             Step::Output { src, .. } => self.seen.push(if src.len > 0 { "Output" } else { "Output of no channels" }),
         }
