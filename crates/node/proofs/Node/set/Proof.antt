@@ -1,5 +1,6 @@
 -- `node::Node::set` meets its contract: by the test on the ramp. Assumes nothing.
-use mathlib.Core.Path.{_∙_}
+use mathlib.Core.Path.{_≡_, _∙_}
+use native.Mathlib.Omega.{arith}
 use borrow.Author.Tests.{eq-eqb, ne-eqb}
 use borrow.Author.Needs.{needs}
 use Rattle.node.specs.Nodes.{setNode}
@@ -14,7 +15,9 @@ at-target-requires c κs = search needs
 
 returns : tie.Need-returns
 unfolding setNode
-returns c = c .at-target .ensures ∙ rw (c .before .before .with-target .ensures, eq-eqb _ _ (c .before .if1 .taken))
+returns c =
+    let none : c .before .before .before .before .args .ramp ≡ 0 = omega (arith, c .before .if1 .taken) in
+    c .at-target .ensures ∙ rw (c .before .before .with-target .ensures, eq-eqb _ _ none)
 
 start-ramp-requires : tie.Need-start-ramp-requires
 start-ramp-requires c κs = rw (c .before .with-target .ensures) (search needs)
