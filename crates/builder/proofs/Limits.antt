@@ -2,26 +2,17 @@
 use mathlib.Core.Path.{_≡_, sym, ap, _∙_}
 use mathlib.Core.Logic.{_↔_}
 use mathlib.Core.Bool.{true, false}
-use mathlib.Core.List.{List, [], _∷_, _++_}
+use mathlib.Core.List.{List, _∷_, _++_}
 use Rattle.refusal.specs.Numbers.{shortArea}
 use Rattle.refusal.specs.Tests.{refusal, Test, test, first, NoneHolds}
 use Rattle.refusal.specs.declared.Refusal.{Refusal}
 use Rattle.refusal.specs.declared.Answer.{Answer}
 use Rattle.refusal.specs.declared.Answer.the-variants.{Accepted, Refused}
-use Rattle.refusal.proofs.Laws.{first-yes, first-no, first-append, none-rest, accepted-none, none-accepted, refused-rest}
+use Rattle.refusal.proofs.Laws.{first-yes, first-no, first-append, none-rest, none-split, none-join, accepted-none, none-accepted, refused-rest}
 use Rattle.plan.specs.declared.Plan.{Plan}
 use Rattle.plan.specs.declared.Limits.{Limits}
 use Rattle.builder.specs.declared.Growth.{Growth}
 use Rattle.builder.specs.Growth.{Lengths, growsOver, limitTests, growsPast, growthTests}
-
--- ---- two lists of tests, one after the other
-none-split : (ts us : List Test) → NoneHolds (ts ++ us) → NoneHolds ts × NoneHolds us
-none-split [] us n = (tt, n)
-none-split (t ∷ ts) us n = let k = none-split ts us (n .1) in ((n .0, k .0), k .1)
-
-none-join : (ts us : List Test) → NoneHolds ts → NoneHolds us → NoneHolds (ts ++ us)
-none-join [] us n m = m
-none-join (t ∷ ts) us n m = (n .0, none-join ts us (n .1) m)
 
 module _ (l : Limits) (p : Plan) (g : Growth) where
   -- what they answer where code makes the growth and asks them

@@ -31,6 +31,15 @@ pub none-rest : (ts : List Test) (rest : Answer) → NoneHolds ts → first ts r
 none-rest [] rest n = refl
 none-rest (t ∷ ts) rest n = first-no t ts rest (n .0) ∙ none-rest ts rest (n .1)
 
+-- of two lists, one after the other, no test holds where none holds of either
+pub none-split : (ts us : List Test) → NoneHolds (ts ++ us) → NoneHolds ts × NoneHolds us
+none-split [] us n = (tt, n)
+none-split (t ∷ ts) us n = let k = none-split ts us (n .1) in ((n .0, k .0), k .1)
+
+pub none-join : (ts us : List Test) → NoneHolds ts → NoneHolds us → NoneHolds (ts ++ us)
+none-join [] us n m = m
+none-join (t ∷ ts) us n m = (n .0, none-join ts us (n .1) m)
+
 -- ---- accepted exactly where no test holds
 pub accepted-none : (ts : List Test) (rest : Answer) → first ts rest ≡ Accepted → NoneHolds ts × (rest ≡ Accepted)
 accepted-none [] rest e = (tt, e)
@@ -77,6 +86,14 @@ first-refused ts rest r f =
 -- what refuses with nothing after it refuses whatever comes after
 pub refused-rest : (ts : List Test) (rest : Answer) (r : Refusal) → first ts Accepted ≡ Refused r → first ts rest ≡ Refused r
 refused-rest ts rest r e = first-refused ts rest r (refused-first ts r e)
+
+-- lists of tests that answer the same with nothing after them answer the same whatever comes after
+pub first-same : (ts us : List Test) (rest : Answer) → first ts Accepted ≡ first us Accepted → first ts rest ≡ first us rest
+first-same ts us rest e = go (first us Accepted) refl
+  where
+    go : (a : Answer) → first us Accepted ≡ a → first ts rest ≡ first us rest
+    go Accepted q = none-rest ts rest (accepted-none ts Accepted (e ∙ q) .0) ∙ sym (none-rest us rest (accepted-none us Accepted q .0))
+    go (Refused r) q = refused-rest ts rest r (e ∙ q) ∙ sym (refused-rest us rest r q)
 
 -- ---- what a call hands back, and its area
 module _ {A : Type 0} (answer : Answer) (done : A) (refused : Refusal → A) where

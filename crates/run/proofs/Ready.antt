@@ -13,7 +13,7 @@ use Rattle.refusal.specs.Tests.{Test, test, first, refusal}
 use Rattle.refusal.specs.declared.Refusal.{Refusal}
 use Rattle.refusal.specs.declared.Answer.{Answer}
 use Rattle.refusal.specs.declared.Answer.the-variants.{Accepted, Refused}
-use Rattle.refusal.proofs.Laws.{first-append, accepted-none, none-rest, none-accepted, refused-rest}
+use Rattle.refusal.proofs.Laws.{first-append, first-same, accepted-none, none-rest, none-accepted}
 use Rattle.node.specs.declared.Node.{Node}
 use Rattle.node.specs.Sizes.{nodeFloats, nodeWords, rampTooLong}
 use Rattle.node.specs.Nodes.{setNode}
@@ -40,14 +40,6 @@ use Rattle.run.specs.Calls.{Fixed, Changing, leftBy, Call, set, run, giv
 use Rattle.run.proofs.Answers.{accepted-runs, refused-keeps}
 use Rattle.run.proofs.States.{Good, good-stored, good-run, run-lengths, NodesBelow}
 use Rattle.run.proofs.Admitted.{tested}
-
--- lists of tests that answer the same with nothing after them answer the same whatever comes after
-first-same : (ts us : List Test) (rest : Answer) → first ts Accepted ≡ first us Accepted → first ts rest ≡ first us rest
-first-same ts us rest e = go (first us Accepted) refl
-  where
-    go : (a : Answer) → first us Accepted ≡ a → first ts rest ≡ first us rest
-    go Accepted q = none-rest ts rest (accepted-none ts Accepted (e ∙ q) .0) ∙ sym (none-rest us rest (accepted-none us Accepted q .0))
-    go (Refused r) q = refused-rest ts rest r (e ∙ q) ∙ sym (refused-rest us rest r q)
 
 -- ---- the areas of a plan
 
