@@ -105,7 +105,7 @@ module _ (g : RunGiven) (s : State) where
 -- ---- what an accepted run says
 pub record Admitted (g : RunGiven) (s : State) : Type 0 where
   pub plan : checkPlan (g .plan) (areas-of g s) ≡ Accepted
-  pub fit : Fit (g .plan) (g .indices) (g .coefficients) s
+  pub fit : Fit (g .plan) (g .coefficients) s
   pub step-words : g .plan .words ≤ length (g .steps)
   pub steps : Passes (g .plan) (g .indices) (take (g .plan .words) (g .steps)) (g .plan .steps) 0
   pub placed : Each (Placed (g .plan) (g .indices)) (stepsOf (g .plan) (g .steps))

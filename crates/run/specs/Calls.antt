@@ -27,6 +27,7 @@ pub record Changing : Type 0 where
   pub words : List ℕ
   pub buffers : List Float
 
+-- what a run leaves of them, from its state
 abbrev pub leftBy : State → Changing
 leftBy s = record { floats = s .floats; words = s .words; buffers = s .buffers }
 

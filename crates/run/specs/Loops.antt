@@ -15,7 +15,7 @@ use Rattle.run.specs.Run.{State}
 -- ---- what the tests said
 
 -- of the plan and its areas, at any step
-pub record Fit (p : Plan) (indices : List ℕ) (coefficients : List Float) (s : State) : Type 0 where
+pub record Fit (p : Plan) (coefficients : List Float) (s : State) : Type 0 where
   pub block : p .block ≤ maxBlock
   pub steps : p .steps ≤ unitLimits .steps
   pub weights : p .coefficients ≤ length coefficients
@@ -25,7 +25,7 @@ pub record Fit (p : Plan) (indices : List ℕ) (coefficients : List Float) (s : 
 
 -- and of one step
 pub record FitStep (p : Plan) (indices : List ℕ) (coefficients : List Float) (s : State) (x : Step) : Type 0 where
-  pub fit : Fit p indices coefficients s
+  pub fit : Fit p coefficients s
   pub inside : Placed p indices x
   pub narrow : Narrow x
   pub apart : Apart indices x

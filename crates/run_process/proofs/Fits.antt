@@ -19,7 +19,7 @@ pub step-as : {p : Plan} {indices : List ℕ} {coefficients : List Float} {s : S
     → FitStep p indices coefficients s y
 step-as {p} {indices} {coefficients} {s} e f = subst (FitStep p indices coefficients s) e f
 
-pub node-fit : {p : Plan} {indices : List ℕ} {coefficients : List Float} {s : State} (n : ℕ) (src dst : Span) → Fit p indices coefficients s → n < p .nodes
+pub node-fit : {p : Plan} {indices : List ℕ} {coefficients : List Float} {s : State} (n : ℕ) (src dst : Span) → Fit p coefficients s → n < p .nodes
     → Names p indices src → Names p indices dst → NodeFit p indices (s .floats) (s .words) (s .buffers) n src dst
 node-fit n src dst f h a b =
     record {

@@ -26,7 +26,7 @@ use Rattle.run.proofs.States.{Good, step-nodes, good-ends}
 
 -- a step makes no node bad
 module _ (p : Plan) (indices : List ℕ) (coefficients : List Float) (block : ℕ) (input : ℕ → ℕ → List Float) (s : State) where
-  pub stepped-good : (x : Step) → Fit p indices coefficients s → Placed p indices x → someBad (stepped block input (resolved p indices coefficients x) s .words) (p .nodes) ≡ false
+  pub stepped-good : (x : Step) → Fit p coefficients s → Placed p indices x → someBad (stepped block input (resolved p indices coefficients x) s .words) (p .nodes) ≡ false
   stepped-good x f h =
       let y = resolved p indices coefficients x in
       let good : Good (p .nodes) (idAt (s .words)) (s .words) = record { room = f .room .1; ids-are = λ i l. refl; none-bad = f .good } in
@@ -42,7 +42,7 @@ module _ (p : Plan) (indices : List ℕ) (coefficients : List Float) (input : �
   -- i steps are behind, and led from s₀ to s: what is left of the steps takes s to where all of them take s₀
   pub record Going (at i : ℕ) (s : State) : Type 0 where
     pub turns : i ≤ p .steps
-    pub fit : Fit p indices coefficients s
+    pub fit : Fit p coefficients s
     pub pass : Passes p indices w (p .steps - i) at
     pub room : s .wrote + channelsOf (from i at) * p .block ≤ length (s .output)
     pub floats : length (s .floats) ≡ length (s₀ .floats)
@@ -51,7 +51,7 @@ module _ (p : Plan) (indices : List ℕ) (coefficients : List Float) (input : �
     pub output : length (s .output) ≡ length (s₀ .output)
     pub so : runSteps (p .block) input (steps-of (decoded w (p .steps))) s₀ ≡ runSteps (p .block) input (steps-of (from i at)) s
 
-  pub going-starts : Fit p indices coefficients s₀ → Passes p indices w (p .steps) 0 → s₀ .wrote ≡ 0
+  pub going-starts : Fit p coefficients s₀ → Passes p indices w (p .steps) 0 → s₀ .wrote ≡ 0
       → channelsOf (decoded w (p .steps)) * p .block ≤ length (s₀ .output) → Going 0 0 s₀
   unfolding decoded
   going-starts f c z r =

@@ -90,7 +90,7 @@ fn run_steps(
     samples: &[f32],
     output: &mut [f32],
 ) -> usize
-    requires { ⌜ Fit plan (now indices) (now coefficients) (state (now floats) (now words) (now buffers) (now output) 0) × Passes plan (now indices) (now steps) (plan .steps) 0 ⌝ }
+    requires { ⌜ Fit plan (now coefficients) (state (now floats) (now words) (now buffers) (now output) 0) × Passes plan (now indices) (now steps) (plan .steps) 0 ⌝ }
     requires { ⌜ Starts (now directory) (now starts) ⌝ }
     requires { ⌜ channelsOf (decoded (now steps) (plan .steps)) * plan .block ≤ length (now output) ⌝ }
     ensures { λ r. ⌜ state (now (floats .exit)) (now (words .exit)) (now (buffers .exit)) (now (output .exit)) r
@@ -121,7 +121,7 @@ fn run_steps(
     wrote
 }
 
-// All steps of a run. Requires what the tests said of the plan, its steps and the directory.
+// All steps of a run, over the step words that the plan counts. Requires what the tests said of the plan, its steps, the directory and the output area.
 pub fn run_block(
     plan: Plan,
     indices: &[u32],
@@ -134,7 +134,7 @@ pub fn run_block(
     samples: &[f32],
     output: &mut [f32],
 ) -> usize
-    requires { ⌜ Fit plan (now indices) (now coefficients) (state (now floats) (now words) (now buffers) (now output) 0) × Passes plan (now indices) (now steps) (plan .steps) 0 ⌝ }
+    requires { ⌜ Fit plan (now coefficients) (state (now floats) (now words) (now buffers) (now output) 0) × Passes plan (now indices) (now steps) (plan .steps) 0 ⌝ }
     requires { ⌜ (channelsOf (decoded (now steps) (plan .steps)) * plan .block ≤ length (now output)) × (entries (now directory) ≤ maxEntries) ⌝ }
     ensures { λ r. ⌜ state (now (floats .exit)) (now (words .exit)) (now (buffers .exit)) (now (output .exit)) r
         ≡ runSteps (plan .block) (lookup (now (directory .entry)) (now (samples .entry))) (map (resolved plan (now (indices .entry)) (now (coefficients .entry))) (decoded (now (steps .entry)) (plan .steps))) (state (now (floats .entry)) (now (words .entry)) (now (buffers .entry)) (now (output .entry)) 0) ⌝ }
