@@ -12,7 +12,7 @@ use Rattle.refusal.specs.Tests.{refusal}
 use Rattle.refusal.specs.declared.Answer.the-variants.{Accepted, Refused}
 use Rattle.node.specs.declared.Node.{Node}
 use Rattle.node.specs.Nodes.{f32, newNode, setNode}
-use Rattle.node.specs.Areas.{nodeAt, floatsOf, wordsOf, outOfRange, someBad}
+use Rattle.node.specs.Areas.{nodeAt, floatsOf, wordsOf, isBad, someBad}
 use Rattle.adoption.specs.Adoption.{Lent, lent, pairAdopted, pairsAdopted, adoptionAnswer, adoptionFloats, adoptionWords}
 
 -- a new plan with one node, 1, that is fading in, and an old one with three: 3; 5 beside 6; 2
@@ -42,7 +42,7 @@ pub over-ramp : (adoptionAnswer new old (0 ∷ 0 ∷ []) 4 ≡ Accepted)
     × (after (0 ∷ 0 ∷ []) 4 .id ≡ 7)
     × (after (0 ∷ 0 ∷ []) 4 .len ≡ 1)
     × (after (0 ∷ 0 ∷ []) 4 .left ≡ 4)
-unfolding adoptionAnswer adoptionFloats adoptionWords pairsAdopted pairAdopted newNode setNode nodeAt floatsOf wordsOf outOfRange someBad sub div ofInt
+unfolding adoptionAnswer adoptionFloats adoptionWords pairsAdopted pairAdopted newNode setNode nodeAt floatsOf wordsOf isBad someBad sub div ofInt
 over-ramp = (refl, refl, refl, refl, refl, refl, refl)
 
 -- at once: at its own target
@@ -51,12 +51,12 @@ pub at-once : (take 1 (after (0 ∷ 0 ∷ []) 0 .cur) ≡ f32 1 ∷ [])
     × (after (0 ∷ 0 ∷ []) 0 .id ≡ 7)
     × (after (0 ∷ 0 ∷ []) 0 .len ≡ 1)
     × (after (0 ∷ 0 ∷ []) 0 .left ≡ 0)
-unfolding adoptionAnswer adoptionFloats adoptionWords pairsAdopted pairAdopted newNode setNode nodeAt floatsOf wordsOf outOfRange someBad sub div ofInt
+unfolding adoptionAnswer adoptionFloats adoptionWords pairsAdopted pairAdopted newNode setNode nodeAt floatsOf wordsOf isBad someBad sub div ofInt
 at-once = (refl, refl, refl, refl, refl)
 
 -- the later of two pairs of one new node stands
 pub in-order : take 1 (after (0 ∷ 0 ∷ 0 ∷ 2 ∷ []) 4 .cur) ≡ f32 2 ∷ []
-unfolding adoptionAnswer adoptionFloats adoptionWords pairsAdopted pairAdopted newNode setNode nodeAt floatsOf wordsOf outOfRange someBad sub div ofInt
+unfolding adoptionAnswer adoptionFloats adoptionWords pairsAdopted pairAdopted newNode setNode nodeAt floatsOf wordsOf isBad someBad sub div ofInt
 in-order = refl
 
 -- skipped, and accepted: a node of another len; no such new node; no such old node
@@ -64,11 +64,11 @@ pub skips : (adoptionAnswer new old (0 ∷ 1 ∷ 1 ∷ 0 ∷ 0 ∷ 3 ∷ []) 4 �
     × (adoptionFloats new old (0 ∷ 1 ∷ []) 4 ≡ new .floats) × (adoptionWords new old (0 ∷ 1 ∷ []) 4 ≡ new .words)
     × (adoptionFloats new old (1 ∷ 0 ∷ []) 4 ≡ new .floats) × (adoptionWords new old (1 ∷ 0 ∷ []) 4 ≡ new .words)
     × (adoptionFloats new old (0 ∷ 3 ∷ []) 4 ≡ new .floats) × (adoptionWords new old (0 ∷ 3 ∷ []) 4 ≡ new .words)
-unfolding adoptionAnswer adoptionFloats adoptionWords pairsAdopted pairAdopted newNode setNode nodeAt floatsOf wordsOf outOfRange someBad sub div ofInt
+unfolding adoptionAnswer adoptionFloats adoptionWords pairsAdopted pairAdopted newNode setNode nodeAt floatsOf wordsOf isBad someBad sub div ofInt
 skips = (refl, refl, refl, refl, refl, refl, refl)
 
 -- a list of odd length is refused, whatever pairs it starts with
 pub odd : (adoptionAnswer new old (0 ∷ 0 ∷ 0 ∷ []) 4 ≡ Refused (refusal oddList 0))
     × (adoptionFloats new old (0 ∷ 0 ∷ 0 ∷ []) 4 ≡ new .floats) × (adoptionWords new old (0 ∷ 0 ∷ 0 ∷ []) 4 ≡ new .words)
-unfolding adoptionAnswer adoptionFloats adoptionWords pairsAdopted pairAdopted newNode setNode nodeAt floatsOf wordsOf outOfRange someBad sub div ofInt
+unfolding adoptionAnswer adoptionFloats adoptionWords pairsAdopted pairAdopted newNode setNode nodeAt floatsOf wordsOf isBad someBad sub div ofInt
 odd = (refl, refl, refl)

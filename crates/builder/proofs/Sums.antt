@@ -27,12 +27,12 @@ use Rattle.plan.proofs.Plans.{among-none}
 use Rattle.builder.specs.declared.Change.{Change}
 use Rattle.builder.specs.declared.Change.the-variants.{Same, Add}
 use Rattle.builder.specs.declared.Growth.{Growth}
-use Rattle.builder.specs.Growth.{Lengths, after, grown, tested, growsOver, limitTests, tooShort, growsPast}
+use Rattle.builder.specs.Growth.{Lengths, countAfter, grown, tested, growsOver, limitTests, tooShort, growsPast}
 use Rattle.builder.specs.Sums.{plus, sum, idsTaken}
 
 -- ---- growth upon growth
 
-after-sum : (count : ℕ) (a b : Change) → after (after count a) b ≡ after count (plus a b)
+after-sum : (count : ℕ) (a b : Change) → countAfter (countAfter count a) b ≡ countAfter count (plus a b)
 after-sum count Same b = refl
 after-sum count (Add n) Same = refl
 after-sum count (Add n) (Add m) = add-assoc count n m
@@ -51,7 +51,7 @@ grown-sum p g h =
 
 module _ (bad : ℕ → Bool) (more : (k n : ℕ) → bad (k + n) ≡ false → bad k ≡ false) where
   tested-sum : (count : ℕ) (a b : Change)
-      → (tested bad count (plus a b) ≡ false) ↔ ((tested bad count a ≡ false) × (tested bad (after count a) b ≡ false))
+      → (tested bad count (plus a b) ≡ false) ↔ ((tested bad count a ≡ false) × (tested bad (countAfter count a) b ≡ false))
   tested-sum count Same b = (λ e. (refl, e), λ h. h .1)
   tested-sum count (Add n) Same = (λ e. (e, refl), λ h. h .0)
   tested-sum count (Add n) (Add m) =
@@ -102,7 +102,7 @@ module _ (p : Plan) (g h : Growth) where
     λ n. (over-sum l .1 (n .0 .0, n .1 .0), tt),
   )
 
-  short-sum : (len each count : ℕ) (a b : Change) → Splits (tooShort len count (plus a b) each) (tooShort len count a each) (tooShort len (after count a) b each)
+  short-sum : (len each count : ℕ) (a b : Change) → Splits (tooShort len count (plus a b) each) (tooShort len count a each) (tooShort len (countAfter count a) b each)
   short-sum len each count a b = tested-sum (λ k. shorter len k each) (short-more len each) count a b
 
   pub past-sum : (z : Lengths) → Splits (growsPast p (sum g h) z) (growsPast p g z) (growsPast (grown p g) h z)

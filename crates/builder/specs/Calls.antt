@@ -110,10 +110,14 @@ coefficientsSpan l p n len = outcome (coefficientsAnswer l p n len) (spanned.Mad
 abbrev pub lentNodes : ℕ → ℕ → Lengths
 lentNodes floats words = record { indices = 0; coefficients = 0; nodeFloats = floats; nodeWords = words; stepWords = 0 }
 
+-- "a node of over 24 values"
+abbrev pub tooMany : ℕ → Bool
+tooMany n = ltb maxValues n
+
 -- its own, of n values
 abbrev pub nodeOwn : Plan → ℕ → ℕ → ℕ → List ℕ → List Test
 nodeOwn p id n ramp words =
-    test tooManyValues (ltb maxValues n) ∷ test idTaken (idAmong words (p .nodes) id) ∷ test longRamp (rampTooLong ramp) ∷ []
+    test tooManyValues (tooMany n) ∷ test idTaken (idAmong words (p .nodes) id) ∷ test longRamp (rampTooLong ramp) ∷ []
 
 abbrev pub nodeTests : Limits → Plan → ℕ → ℕ → ℕ → ℕ → List ℕ → List Test
 nodeTests l p id n ramp floats words = growthTests l p nodeGrowth (lentNodes floats (length words)) (nodeOwn p id n ramp words)

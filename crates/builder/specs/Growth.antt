@@ -14,14 +14,15 @@ use Rattle.builder.specs.declared.Change.{Change}
 use Rattle.builder.specs.declared.Change.the-variants.{Same, Add}
 use Rattle.builder.specs.declared.Growth.{Growth}
 
-abbrev pub after : ℕ → Change → ℕ
-after count Same = count
-after count (Add n) = count + n
+-- a count after the call
+abbrev pub countAfter : ℕ → Change → ℕ
+countAfter count Same = count
+countAfter count (Add n) = count + n
 
 abbrev pub grown : Plan → Growth → Plan
 grown p g =
-    planWith (p .block) (after (p .buffers) (g .buffers)) (after (p .indices) (g .indices)) (after (p .coefficients) (g .coefficients))
-    (after (p .nodes) (g .nodes)) (after (p .steps) (g .steps)) (after (p .words) (g .words))
+    planWith (p .block) (countAfter (p .buffers) (g .buffers)) (countAfter (p .indices) (g .indices)) (countAfter (p .coefficients) (g .coefficients))
+    (countAfter (p .nodes) (g .nodes)) (countAfter (p .steps) (g .steps)) (countAfter (p .words) (g .words))
 
 -- a test of a count, after the call
 abbrev pub tested : (ℕ → Bool) → ℕ → Change → Bool

@@ -3,18 +3,17 @@ use Prim.Native.Nat.{ℕ, _+_}
 use mathlib.Core.Path.{_≡_}
 use mathlib.Core.Bool.{Bool, false, _||_}
 use mathlib.Core.List.{List, [], _∷_, _++_}
-use lib.Dec.{ltb}
 use lib.ListN.{length}
 use Rattle.lists.specs.Entries.{has}
 use Rattle.refusal.specs.Tests.{NoneHolds}
-use Rattle.node.specs.Sizes.{maxValues, rampTooLong}
+use Rattle.node.specs.Sizes.{rampTooLong}
 use Rattle.plan.specs.declared.Limits.{Limits}
 use Rattle.plan.specs.Check.{idAmong}
 use Rattle.builder.specs.declared.Change.{Change}
 use Rattle.builder.specs.declared.Change.the-variants.{Same, Add}
 use Rattle.builder.specs.declared.Growth.{Growth}
 use Rattle.builder.specs.Growth.{Lengths, limitTests, growsPast, buffersGrowth, coefficientsGrowth, nodeGrowth, stepGrowth}
-use Rattle.builder.specs.Calls.{recordLength, stepOwn}
+use Rattle.builder.specs.Calls.{tooMany, recordLength, stepOwn}
 use Rattle.builder.specs.Built.{BuilderCall, buffers, coefficients, node, step, BuilderState}
 
 -- ---- the growth
@@ -87,7 +86,7 @@ pub record FitsAsOne (l : Limits) (s : BuilderState) (g : Growth) (ids : List �
 abbrev pub Good : BuilderCall → Type 0
 Good (buffers n) = Unit {0}
 Good (coefficients xs) = Unit {0}
-Good (node id xs ramp) = (ltb maxValues (length xs) ≡ false) × (rampTooLong ramp ≡ false)
+Good (node id xs ramp) = (tooMany (length xs) ≡ false) × (rampTooLong ramp ≡ false)
 Good (step w) = NoneHolds (stepOwn w)
 
 abbrev pub AllGood : List BuilderCall → Type 0

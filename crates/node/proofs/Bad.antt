@@ -13,7 +13,7 @@ use lib.Ieee.{Float}
 use borrow.Author.Tests.{ltb-false, le-ltb}
 use Rattle.node.specs.Sizes.{maxValues, nodeWords, maxRamp}
 use Rattle.node.specs.Nodes.{newNode, setNode, finishBlock}
-use Rattle.node.specs.Areas.{lenAt, leftAt, nodeAt, outOfRange, InRange, someBad, storedWords}
+use Rattle.node.specs.Areas.{lenAt, leftAt, nodeAt, isBad, InRange, someBad, storedWords}
 use Rattle.node.specs.declared.Node.{Node}
 use Rattle.node.proofs.Kept.{len-set, len-new, len-finish}
 use Rattle.node.proofs.Left.{left-new, left-bound-set, left-bound-finish}
@@ -28,15 +28,15 @@ or-right : (a b : Bool) → (a || b) ≡ false → b ≡ false
 or-right true b e = absurd (true≢false e)
 or-right false b e = e
 
-pub good-in-range : (n : Node) → outOfRange (n .len) (n .left) ≡ false → InRange n
-unfolding outOfRange
+pub good-in-range : (n : Node) → isBad (n .len) (n .left) ≡ false → InRange n
+unfolding isBad
 good-in-range n e =
     let a : Bool = ltb maxValues (n .len) in
     let b : Bool = ltb maxRamp (n .left) in
     record { len = ltb-false maxValues (n .len) (or-left a b e); left = ltb-false maxRamp (n .left) (or-right a b e) }
 
-in-range-good : (n : Node) → InRange n → outOfRange (n .len) (n .left) ≡ false
-unfolding outOfRange
+in-range-good : (n : Node) → InRange n → isBad (n .len) (n .left) ≡ false
+unfolding isBad
 in-range-good n r = rw (le-ltb maxValues (n .len) (r .len), le-ltb maxRamp (n .left) (r .left))
 
 -- ---- after each call
@@ -51,7 +51,7 @@ in-range-finish n block g = record { len = rw len-finish (g .len); left = left-b
 
 -- ---- the first count nodes
 abbrev badAt : List ℕ → ℕ → Bool
-badAt words i = outOfRange (lenAt words i) (leftAt words i)
+badAt words i = isBad (lenAt words i) (leftAt words i)
 
 none-bad : (words : List ℕ) (count : ℕ) → ((i : ℕ) → i < count → badAt words i ≡ false) → someBad words count ≡ false
 unfolding someBad

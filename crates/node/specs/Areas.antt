@@ -74,8 +74,8 @@ ended block floats words n = finishBlock (nodeAt floats words n) block
 -- ---- number 14: "any lent node, used or not, new or old, with len above 24 or left above 16,777,216"
 
 -- a node with this len and this left is bad
-unfoldable pub outOfRange : ℕ → ℕ → Bool
-outOfRange len left = ltb maxValues len || ltb maxRamp left
+unfoldable pub isBad : ℕ → ℕ → Bool
+isBad len left = ltb maxValues len || ltb maxRamp left
 
 -- what the test lets pass
 pub record InRange (node : Node) : Type 0 where
@@ -85,4 +85,4 @@ pub record InRange (node : Node) : Type 0 where
 -- one of the first count nodes, by its words
 unfoldable pub someBad : List ℕ → ℕ → Bool
 someBad words zero = false
-someBad words (suc n) = someBad words n || outOfRange (lenAt words n) (leftAt words n)
+someBad words (suc n) = someBad words n || isBad (lenAt words n) (leftAt words n)

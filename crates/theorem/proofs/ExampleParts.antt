@@ -17,7 +17,7 @@ use Rattle.lists.proofs.Bools.{or-none, or-some}
 use Rattle.lists.proofs.Scans.{Counted, counted-at}
 use Rattle.node.specs.Sizes.{nodeFloats, nodeWords}
 use Rattle.node.specs.Nodes.{newNode, setNode, gainOf, factor, finishBlock}
-use Rattle.node.specs.Areas.{nodeAt, floatsOf, wordsOf, outOfRange, someBad}
+use Rattle.node.specs.Areas.{nodeAt, floatsOf, wordsOf, isBad, someBad}
 use Rattle.sets.specs.Sets.{sift}
 use Rattle.mix.specs.Samples.{sampled}
 use Rattle.mix.specs.Mix.{added, weighted, sent, columns, weighs}
@@ -39,7 +39,7 @@ use Rattle.theorem.specs.Statement.{Lists, a, b, firstJournal, secondJou
 
 -- What a computation of builds, traces and journals goes through: `unfolding definitions` opens all of these and what they open.
 unfoldable pub definitions : Unit {0}
-unfolding ones onesIn add sub mul div eq ofInt ofBits newNode setNode gainOf factor finishBlock nodeAt floatsOf wordsOf outOfRange someBad stepOf decoded decodedFrom someFrom idAmong idTwice outsideBy has meet shares stepsTests checked sampled added weighted sent columns weighs newAnswer buffersIndices coefficientsArea nodeFloatsArea nodeWordsArea stepArea finishArea processed nodeOf settingFloats settingWords sift sourceList cleanAnswer
+unfolding ones onesIn add sub mul div eq ofInt ofBits newNode setNode gainOf factor finishBlock nodeAt floatsOf wordsOf isBad someBad stepOf decoded decodedFrom someFrom idAmong idTwice outsideBy has meet shares stepsTests checked sampled added weighted sent columns weighs newAnswer buffersIndices coefficientsArea nodeFloatsArea nodeWordsArea stepArea finishArea processed nodeOf settingFloats settingWords sift sourceList cleanAnswer
 definitions = tt
 
 -- ---- samples

@@ -4,7 +4,7 @@ use native.Mathlib.Omega.{arith}
 use mathlib.Core.Path.{_≡_, refl, sym, ap, _∙_}
 use mathlib.Core.Bool.{false}
 use borrow.Author.Needs.{needs}
-use Rattle.node.specs.Areas.{outOfRange, someBad}
+use Rattle.node.specs.Areas.{isBad, someBad}
 use Rattle.node.proofs.Bad.{none-bad-more, some-bad}
 use Rattle.node_areas.proofs.any_bad.Statement.{statement}
 use Rattle.node_areas.proofs.any_bad.Tie as tie
@@ -44,7 +44,7 @@ shared-slice-read-if1-2 : tie.Need-shared-slice-read-if1-2 Inv-loop μ-loop
 shared-slice-read-if1-2 c = search needs
 
 returns : tie.Need-returns Inv-loop μ-loop
-unfolding outOfRange
+unfolding isBad
 returns c =
     let l = c .before .before .before .before .loop in
     let a = c .before .before .before .before .before .args in
@@ -57,7 +57,7 @@ loop-less : tie.Need-loop-less Inv-loop μ-loop
 loop-less c = search needs
 
 loop-again : tie.Need-loop-again Inv-loop μ-loop
-unfolding outOfRange
+unfolding isBad
 loop-again c =
     let l = c .before .before .before .before .loop in
     let a = c .before .before .before .before .before .args in
