@@ -1,4 +1,5 @@
-// Send.
+// The loops of Send over the buffers of one area. Ports those of `Plan::process` in src/engine/plan.rs.
+// All of it is for the crates above and not the interface: a function that has a `requires` says in its comment what it takes.
 use mix_pairs::add_four;
 use mix_pairs::add_two;
 use mix_pairs::weigh_two;

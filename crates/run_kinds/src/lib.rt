@@ -95,7 +95,7 @@ fn send_buffers(
     let g = node_areas::load(floats, words, node as usize).gain(0);
     let from = plan_steps::numbers(indices, src);
     let to = plan_steps::numbers(indices, dst);
-    mix_buffers::send(buffers, plan.block, from, to, w, g);
+    mix_send::send(buffers, plan.block, from, to, w, g);
 }
 
 // Gain, and the end of its node's block. Requires what the tests said of it.

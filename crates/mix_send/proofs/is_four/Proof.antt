@@ -1,10 +1,10 @@
--- `mix_buffers::sends::is_four` meets its contract: by its tests, one after the other. Assumes nothing.
+-- `mix_send::is_four` meets its contract: by its tests, one after the other. Assumes nothing.
 use mathlib.Core.Bool.{false≢true}
 use lib.Ieee.{eq, ne}
 use borrow.Author.Needs.{needs}
 use Rattle.mix.proofs.Given.{four-enough, four-of}
-use Rattle.mix_buffers.proofs.sends.is_four.Statement.{statement}
-use Rattle.mix_buffers.proofs.sends.is_four.Tie as tie
+use Rattle.mix_send.proofs.is_four.Statement.{statement}
+use Rattle.mix_send.proofs.is_four.Tie as tie
 
 returns : tie.Need-returns
 returns c = λ e. absurd (false≢true e)

@@ -1,9 +1,9 @@
--- `mix_buffers::sends::send` meets its contract: a Send whose gain is at rest at 0 changes nothing. Assumes nothing.
+-- `mix_send::send` meets its contract: a Send whose gain is at rest at 0 changes nothing. Assumes nothing.
 use mathlib.Core.Path.{sym, _∙_}
 use borrow.Author.Needs.{needs}
 use Rattle.mix.proofs.Turns.{send-silent}
-use Rattle.mix_buffers.proofs.sends.send.Statement.{statement}
-use Rattle.mix_buffers.proofs.sends.send.Tie as tie
+use Rattle.mix_send.proofs.send.Statement.{statement}
+use Rattle.mix_send.proofs.send.Tie as tie
 
 is-silent-requires : tie.Need-is-silent-requires
 is-silent-requires c κs = search needs

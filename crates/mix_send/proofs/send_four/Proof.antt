@@ -1,4 +1,4 @@
--- `mix_buffers::sends::send_four` meets its contract: by the law of two rows and two columns at rest. Assumes nothing.
+-- `mix_send::send_four` meets its contract: by the law of two rows and two columns at rest. Assumes nothing.
 use mathlib.Core.Path.{refl}
 use native.Mathlib.Omega.{arith}
 use lib.ListN.{getD}
@@ -6,8 +6,8 @@ use borrow.Author.Needs.{needs}
 use Rattle.mix.specs.Mix.{Row}
 use Rattle.mix.proofs.Given.{pair-of, row-of}
 use Rattle.mix.proofs.Turns.{four-sent}
-use Rattle.mix_buffers.proofs.sends.send_four.Statement.{statement}
-use Rattle.mix_buffers.proofs.sends.send_four.Tie as tie
+use Rattle.mix_send.proofs.send_four.Statement.{statement}
+use Rattle.mix_send.proofs.send_four.Tie as tie
 
 shared-slice-read-s : tie.Need-shared-slice-read-s
 shared-slice-read-s c = search needs

@@ -1,9 +1,9 @@
--- `mix_buffers::sends::send_into` meets its contract: by the test on the weight, and the arm that the match took. Assumes nothing.
+-- `mix_send::send_into` meets its contract: by the test on the weight, and the arm that the match took. Assumes nothing.
 use native.Mathlib.Omega.{arith}
 use borrow.Author.Needs.{needs}
 use Rattle.mix.proofs.Turns.{weight-zero, sent-at-rest, sent-ramping}
-use Rattle.mix_buffers.proofs.sends.send_into.Statement.{statement}
-use Rattle.mix_buffers.proofs.sends.send_into.Tie as tie
+use Rattle.mix_send.proofs.send_into.Statement.{statement}
+use Rattle.mix_send.proofs.send_into.Tie as tie
 
 returns : tie.Need-returns
 returns c = let a = c .before .before .args in weight-zero (a .block) (a .g) (a .w) (a .s) (a .d) (a .area .now) (c .if1 .taken)

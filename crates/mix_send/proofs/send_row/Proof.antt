@@ -1,4 +1,4 @@
--- `mix_buffers::sends::send_row` meets its contract: two sources by the contract of `send_two`; in the loop the invariant is that the sources that are left make the whole. Assumes nothing.
+-- `mix_send::send_row` meets its contract: two sources by the contract of `send_two`; in the loop the invariant is that the sources that are left make the whole. Assumes nothing.
 use mathlib.Core.Path.{_≡_, refl}
 use Prim.Native.Nat.{_+_, _-_, _≤_}
 use native.Mathlib.Omega.{arith}
@@ -9,8 +9,8 @@ use Rattle.lists.proofs.Bools.{first-not, second-not}
 use Rattle.mix.specs.Mix.{isZero, weighs}
 use Rattle.mix.proofs.Given.{pair-of}
 use Rattle.mix.proofs.Turns.{no-source, source-sent, sources-sent, two-sent}
-use Rattle.mix_buffers.proofs.sends.send_row.Statement.{statement}
-use Rattle.mix_buffers.proofs.sends.send_row.Tie as tie
+use Rattle.mix_send.proofs.send_row.Statement.{statement}
+use Rattle.mix_send.proofs.send_row.Tie as tie
 
 abbrev Inv-loop : tie.InvT-loop
 Inv-loop area₀ block src d weights at g c₀ c-end area c = (c ≤ c-end) × (length area ≡ length area₀) × (weighs block g weights (at + c) (drop c src) d area ≡ weighs block g weights at src d area₀)

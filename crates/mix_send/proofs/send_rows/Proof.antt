@@ -1,4 +1,4 @@
--- `mix_buffers::sends::send_rows` meets its contract: two rows and two columns by the contract of `send_four`; in the loop the invariant is that the rows that are left make the whole. Assumes nothing.
+-- `mix_send::send_rows` meets its contract: two rows and two columns by the contract of `send_four`; in the loop the invariant is that the rows that are left make the whole. Assumes nothing.
 use mathlib.Core.Path.{_≡_, refl, sym, ap, _∙_}
 use Prim.Native.Nat.{_-_, _*_, _≤_}
 use native.Mathlib.Omega.{arith}
@@ -9,8 +9,8 @@ use Rattle.mix.specs.Mix.{sends}
 use Rattle.mix.proofs.Put.{ends-before}
 use Rattle.mix.proofs.Given.{row-of}
 use Rattle.mix.proofs.Turns.{no-row-sent, row-sent, rows-sent}
-use Rattle.mix_buffers.proofs.sends.send_rows.Statement.{statement}
-use Rattle.mix_buffers.proofs.sends.send_rows.Tie as tie
+use Rattle.mix_send.proofs.send_rows.Statement.{statement}
+use Rattle.mix_send.proofs.send_rows.Tie as tie
 
 abbrev Inv-loop : tie.InvT-loop
 Inv-loop area₀ block src dst weights g n r₀ r-end area r = (r ≤ r-end) × (length area ≡ length area₀) × (sends block g weights (r * length src) src (drop r dst) area ≡ sends block g weights 0 src dst area₀)

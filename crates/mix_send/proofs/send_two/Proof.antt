@@ -1,8 +1,8 @@
--- `mix_buffers::sends::send_two` meets its contract: by the arm that the match took. Assumes nothing.
+-- `mix_send::send_two` meets its contract: by the arm that the match took. Assumes nothing.
 use borrow.Author.Needs.{needs}
 use Rattle.mix.proofs.Turns.{two-at-rest, two-ramping}
-use Rattle.mix_buffers.proofs.sends.send_two.Statement.{statement}
-use Rattle.mix_buffers.proofs.sends.send_two.Tie as tie
+use Rattle.mix_send.proofs.send_two.Statement.{statement}
+use Rattle.mix_send.proofs.send_two.Tie as tie
 
 enum-known-g : tie.Need-enum-known-g
 enum-known-g c = search needs
