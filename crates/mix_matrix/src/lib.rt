@@ -97,7 +97,7 @@ fn sum_piece(
     store(&t, area, d * block + j, m);
 }
 
-// Samples r to the end of the block of a row, one after another. Requires as `sum_row`, and a sample of the block.
+// Samples r to the end of the block of a row, one after another. Requires as `sum_row`, and an r of at most the block.
 fn sum_last(
     area: &mut [f32],
     block: usize,

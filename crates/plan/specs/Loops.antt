@@ -1,4 +1,4 @@
--- What the loops of the check go by, and what it counts. Definitions only.
+-- What the loops of the check go by, what it counts, and what a step has as it was read: its slot and its channels. Definitions only.
 use Prim.Native.Nat.{ℕ, _+_, _*_, _<_}
 use mathlib.Core.Bool.{Bool}
 use mathlib.Core.List.{List, [], _∷_}

@@ -19,7 +19,7 @@ pub data Resolved : Type 0 where
   send : (node : ℕ) (src dst : List ℕ) (weights : List Float) → Resolved
   output : (src : List ℕ) (slot : ℕ) → Resolved
 
--- the record is given too: what a kind of step names may lie where the record says
+-- the plan's record is given too, though no kind asks for it yet: what a step names may come to lie where the record says
 module _ (p : Plan) (indices : List ℕ) (coefficients : List Float) where
   abbrev pub resolved : Step → Resolved
   resolved (Patch i c d) = patch i c d

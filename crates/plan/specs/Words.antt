@@ -103,7 +103,7 @@ outputKind = record { bits = srcStart ∷ srcLength ∷ slot ∷ []; made = λ f
 abbrev pub kinds : List StepKind
 kinds = patchKind ∷ gainKind ∷ matrixKind ∷ clearKind ∷ sendKind ∷ outputKind ∷ []
 
--- the map of a kind
+-- the map that has these bits
 abbrev pub mapOf : List ℕ → ℕ
 mapOf [] = 0
 mapOf (b ∷ bs) = 2 ^ b + mapOf bs

@@ -15,7 +15,7 @@ pub mod Moments
 pub mod Settings
 -- the accepted runs of a list
 pub mod Runs
--- two lists of two plans with the same steps, where no node ramps
+-- two plans with the same steps: one sample of both, and whole lists where no node ramps
 pub mod Pairs
 -- two lists for blocks as long, run by run
 pub mod Lockstep

@@ -43,11 +43,12 @@ unfoldable pub sourceList : ℕ → List Resolved → List ℕ
 unfolding behind
 sourceList s steps = sift (behind s noSources steps) 0 inputs
 
--- "Slots run to the highest one named": how many there are up to the highest of a list, and of what steps name, none where no Output is
+-- "Slots run to the highest one named": how many there are up to the highest of a list
 abbrev pub slotsTo : List ℕ → ℕ
 slotsTo [] = 0
 slotsTo (s ∷ ss) = max (suc s) (slotsTo ss)
 
+-- and up to the highest that steps name: none where no Output is
 unfoldable pub slotCount : List Resolved → ℕ
 slotCount [] = 0
 slotCount (x ∷ xs) = max (slotsTo (slotNamed x)) (slotCount xs)

@@ -41,7 +41,7 @@ fn span_in(set: Set, indices: &[u32], span: Span) -> bool
     all_in(set, plan_steps::numbers(indices, span))
 }
 
-// The set with the buffers of a span. Requires a span that names buffers, and at most 256 of them.
+// The set with the buffers of a span. Requires a span that names buffers, of a plan that has at most 256.
 fn with_span(plan: Plan, set: Set, indices: &[u32], span: Span) -> Set
     requires { ⌜ Names plan (now indices) span × (plan .buffers ≤ unitLimits .buffers) ⌝ }
     ensures { λ r. ⌜ ((b : ℕ) → member r b ≡ (has (named (now (indices .entry)) span) b || member set b)) ⌝ }

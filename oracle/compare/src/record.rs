@@ -1,5 +1,6 @@
 //! `oracle record FILE`: a sample of the reference's answers as a file, small enough to be kept with the port, whose program `replay` runs it.
-//! A case is taken where it reaches something that was not reached often enough yet, so that few cases reach everything on the lists of `branches.rs`.
+//! A case is taken where it reaches something that was not reached often enough yet, so that few cases reach everything on the lists of `branches.rs`
+//! and `recorded_refusals.rs`.
 use crate::branches::{often, BRANCHES, LIMITS};
 use crate::layouts::Gen;
 use crate::plan::Layout;
