@@ -203,17 +203,17 @@ mixer_status mixer_check_plan(mixer_plan plan, const uint32_t *indices, size_t i
 mixer_status mixer_set_param(mixer_plan plan, uint32_t id, const float *values, size_t values_len, uint32_t ramp, float *node_floats,
                              size_t node_floats_len, uint32_t *node_words, size_t node_words_len);
 
-/* One block: the steps in order. An input's channel is the part of the samples that its first entry in the directory names, and silent where it
- * has none or the part is shorter than a block. Each Output appends a block for each of its buffers to the output area; the count is in samples.
- * Refused: as the plan check, then 14, 12, 13. */
+/* One block: the steps in order. An input's channel is the part of the samples that its last entry in the directory names, and silent where it
+ * has none or that part is shorter than a block, whatever the entries before it name. Each Output appends a block for each of its buffers to the
+ * output area; the count is in samples. Refused: as the plan check, then 14, 12, 13. */
 mixer_count_reply mixer_process(mixer_plan plan, const uint32_t *indices, size_t indices_len, const float *coefficients,
                                 size_t coefficients_len, float *node_floats, size_t node_floats_len, uint32_t *node_words,
                                 size_t node_words_len, const uint32_t *steps, size_t steps_len, float *buffers, size_t buffers_len,
                                 const uint32_t *directory, size_t directory_len, const float *samples, size_t samples_len, float *output,
                                 size_t output_len);
 
-/* The channel lookup: copies the part of the samples that the first entry for the channel names to `part`, nothing where there is none.
- * A part past the samples ends where they end. Refused: 2. */
+/* The channel lookup: copies the part of the samples that the last entry for the channel names to `part`, nothing where there is none or that
+ * part is empty. A part past the samples ends where they end. Refused: 2. */
 mixer_count_reply mixer_lookup(const uint32_t *directory, size_t directory_len, const float *samples, size_t samples_len, uint32_t input,
                                uint32_t channel, float *part, size_t part_len);
 

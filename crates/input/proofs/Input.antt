@@ -1,21 +1,22 @@
--- The channel lookup: it hands back the part of the first entry that matches, or nothing; and a directory that is not bad names no part past
+-- The channel lookup: it hands back the part of the last entry that matches, or nothing; and a directory that is not bad names no part past
 -- the samples. Assumes nothing.
 use mathlib.Core.Path.{_≡_, refl, sym, ap, _∙_}
 use mathlib.Core.Bool.{Bool, true, false, _&&_, _||_, or-true, or-false}
 use mathlib.Core.List.{List, [], _∷_}
+use mathlib.Core.Logic.{⊎-elim}
 use Prim.Native.Nat.{ℕ, zero, suc, _+_, _-_, _*_, _%_, _≤_, _<_}
 use native.Mathlib.Omega.{arith}
-use native.Mathlib.Nat.{not-suc-le-zero, add-zero, sub-zero}
+use native.Mathlib.Nat.{add-zero, le-of-suc-le-suc, eq-or-lt-of-le}
 use lib.ListN.{length, getD, drop, length-drop}
 use lib.Seq.{take-all, take-nil}
 use lib.Dec.{ltb, eqb}
 use lib.Ieee.{Float}
-use borrow.Author.Tests.{ltb-true, ltb-false, eqb-true, not-false}
+use borrow.Author.Tests.{ltb-false, eqb-true, not-false}
 use Rattle.lists.specs.Parts.{part}
 use Rattle.lists.proofs.Stores.{length-part}
 use Rattle.lists.proofs.Bools.{or-none}
 use Rattle.lists.proofs.Scans.{Counted, counted-at}
-use Rattle.input.specs.Input.{entryWords, maxEntries, entries, entryWord, entryFor, entryPart, lookupFrom, lookup, somePast, directoryBad}
+use Rattle.input.specs.Input.{entryWords, maxEntries, entries, entryWord, entryFor, entryPart, lookupBelow, lookup, somePast, directoryBad}
 
 -- ---- a part that is cut at the end of the samples
 module _ (xs : List Float) (start len : ℕ) where
@@ -32,85 +33,53 @@ module _ (xs : List Float) (start len : ℕ) where
   pub part-cut : length xs - start ≤ len → part start len xs ≡ drop start xs
   part-cut h = take-all len (drop start xs) (rw length-drop h)
 
--- an entry's test as the code has it, whose first word stands at the entry's own place
-pub entry-is : (directory : List ℕ) (input channel i : ℕ) {b : Bool} → (eqb (getD directory (i * entryWords) 0) input && eqb (entryWord directory i 1) channel) ≡ b
-    → entryFor directory input channel i ≡ b
-entry-is directory input channel i e =
-    ap (λ (k : ℕ). eqb (getD directory k 0) input && eqb (entryWord directory i 1) channel) (add-zero (i * entryWords)) ∙ e
+-- ---- an entry as the code reads it: its first word stands at its own place
+pub first-word : (directory : List ℕ) (i : ℕ) → entryWord directory i 0 ≡ getD directory (i * entryWords) 0
+first-word directory i = ap (λ (k : ℕ). getD directory k 0) (add-zero (i * entryWords))
 
--- ---- the lookup, turn by turn: `left` entries are left from entry i on, and `more` after it
-module _ (directory : List ℕ) (samples : List Float) (input channel i : ℕ) {left more : ℕ} (e : left ≡ suc more) where
-  pub looked-yes : entryFor directory input channel i ≡ true → lookupFrom directory samples input channel left i ≡ entryPart directory samples i
-  unfolding lookupFrom
-  looked-yes t = ap (λ (k : ℕ). lookupFrom directory samples input channel k i) e ∙ rw t
-
-  pub looked-no : entryFor directory input channel i ≡ false
-      → lookupFrom directory samples input channel left i ≡ lookupFrom directory samples input channel more (i + 1)
-  unfolding lookupFrom
-  looked-no t = ap (λ (k : ℕ). lookupFrom directory samples input channel k i) e ∙ rw t
+pub entry-is : (directory : List ℕ) (input channel i : ℕ)
+    → (eqb (getD directory (i * entryWords) 0) input && eqb (entryWord directory i 1) channel) ≡ entryFor directory input channel i
+entry-is directory input channel i = ap (λ (w : ℕ). eqb w input && eqb (entryWord directory i 1) channel) (sym (first-word directory i))
 
 module _ (directory : List ℕ) (samples : List Float) (input channel : ℕ) where
-  pub looked-none : (i : ℕ) {left : ℕ} → left ≡ 0 → lookupFrom directory samples input channel left i ≡ []
-  unfolding lookupFrom
-  looked-none i e = ap (λ (k : ℕ). lookupFrom directory samples input channel k i) e
+  -- ---- the lookup, turn by turn, over n entries of which i is the last
+  module _ {n i : ℕ} (e : n ≡ suc i) where
+    pub looked-yes : entryFor directory input channel i ≡ true → lookupBelow directory samples input channel n ≡ entryPart directory samples i
+    unfolding lookupBelow
+    looked-yes t = ap (lookupBelow directory samples input channel) e ∙ rw t
 
-  -- ---- from an entry on, where none before it matches
-  pub skipped : (first : ℕ) → ((j : ℕ) → j < entries directory → j < first → entryFor directory input channel j ≡ false)
-      → lookup directory samples input channel ≡ lookupFrom directory samples input channel (entries directory - first) first
-  unfolding lookup
-  skipped zero none = rw sub-zero refl
-  skipped (suc k) none = skipped k (λ j h l. none j h (omega arith)) ∙ go (ltb k (entries directory)) refl
-    where
-      go : (b : Bool) → ltb k (entries directory) ≡ b
-          → lookupFrom directory samples input channel (entries directory - k) k ≡ lookupFrom directory samples input channel (entries directory - suc k) (suc k)
-      go true e =
-          let h = ltb-true k (entries directory) e in
-          let s : k + 1 ≡ suc k = omega arith in
-          looked-no directory samples input channel k {left = entries directory - k} {more = entries directory - suc k} (omega (arith, h)) (none k h (omega arith)) ∙ ap (lookupFrom directory samples input channel (entries directory - suc k)) s
-      go false e =
-          let h = ltb-false k (entries directory) e in
-          looked-none k {left = entries directory - k} (omega (arith, h)) ∙ sym (looked-none (suc k) {left = entries directory - suc k} (omega (arith, h)))
+    pub looked-no : entryFor directory input channel i ≡ false → lookupBelow directory samples input channel n ≡ lookupBelow directory samples input channel i
+    unfolding lookupBelow
+    looked-no t = ap (lookupBelow directory samples input channel) e ∙ rw t
+
+  pub looked-none : {n : ℕ} → n ≡ 0 → lookupBelow directory samples input channel n ≡ []
+  unfolding lookupBelow
+  looked-none e = ap (lookupBelow directory samples input channel) e
 
   -- ---- the whole lookup
-  moved : (i j : ℕ) → i ≡ j → entryFor directory input channel i ≡ entryFor directory input channel j
-  moved i j e = ap (entryFor directory input channel) e
 
-  at-first : (i : ℕ) (b : Bool) → entryFor directory input channel (i + 0) ≡ b → entryFor directory input channel i ≡ b
-  at-first i b e = moved i (i + 0) (omega arith) ∙ e
-
-  missed : (n i : ℕ) → ((j : ℕ) → j < n → entryFor directory input channel (i + j) ≡ false) → lookupFrom directory samples input channel n i ≡ []
-  unfolding lookupFrom
-  missed zero i all = refl
-  missed (suc n) i all =
-      rw (at-first i false (all 0 (omega arith)))
-      (missed n (i + 1) (λ (j : ℕ) (h : j < n). moved (i + 1 + j) (i + suc j) (omega arith) ∙ all (suc j) (omega arith)))
+  -- below a place from which on no entry matches
+  pub lookup-below : (n : ℕ) → n ≤ entries directory → ((j : ℕ) → n ≤ j → j < entries directory → entryFor directory input channel j ≡ false)
+      → lookup directory samples input channel ≡ lookupBelow directory samples input channel n
+  unfolding lookup
+  lookup-below n = go (entries directory)
+    where
+      go : (m : ℕ) → n ≤ m → ((j : ℕ) → n ≤ j → j < m → entryFor directory input channel j ≡ false)
+          → lookupBelow directory samples input channel m ≡ lookupBelow directory samples input channel n
+      go zero h none = let e : 0 ≡ n = omega arith in ap (lookupBelow directory samples input channel) e
+      go (suc m) h none =
+          ⊎-elim (λ e. ap (lookupBelow directory samples input channel) (sym e))
+          (λ l. let k = le-of-suc-le-suc l in looked-no refl (none m k (omega arith)) ∙ go m k (λ j a b. none j a (omega arith)))
+          (eq-or-lt-of-le h)
 
   -- no entry matches
   pub lookup-absent : ((j : ℕ) → j < entries directory → entryFor directory input channel j ≡ false) → lookup directory samples input channel ≡ []
-  unfolding lookup
-  lookup-absent all = missed (entries directory) 0 (λ (j : ℕ) (h : j < entries directory). moved (0 + j) j (omega arith) ∙ all j h)
+  lookup-absent all = lookup-below 0 (omega arith) (λ j l h. all j h) ∙ looked-none refl
 
-  found : (n i k : ℕ) → k < n → ((j : ℕ) → j < k → entryFor directory input channel (i + j) ≡ false) → entryFor directory input channel (i + k) ≡ true
-      → lookupFrom directory samples input channel n i ≡ entryPart directory samples (i + k)
-  unfolding lookupFrom
-  found zero i k h before here = absurd (not-suc-le-zero h)
-  found (suc n) i zero h before here =
-      let e : i ≡ i + 0 = omega arith in
-      rw (at-first i true here) (ap (entryPart directory samples) e)
-  found (suc n) i (suc k) h before here =
-      let e : i + 1 + k ≡ i + suc k = omega arith in
-      rw (at-first i false (before 0 (omega arith)))
-      (found n (i + 1) k (omega arith) (λ (j : ℕ) (l : j < k). moved (i + 1 + j) (i + suc j) (omega arith) ∙ before (suc j) (omega arith))
-      (moved (i + 1 + k) (i + suc k) e ∙ here) ∙ ap (entryPart directory samples) e)
-
-  -- the first that matches
-  pub lookup-first : (k : ℕ) → k < entries directory → ((j : ℕ) → j < k → entryFor directory input channel j ≡ false)
+  -- the last that matches
+  pub lookup-last : (k : ℕ) → k < entries directory → ((j : ℕ) → k < j → j < entries directory → entryFor directory input channel j ≡ false)
       → entryFor directory input channel k ≡ true → lookup directory samples input channel ≡ entryPart directory samples k
-  unfolding lookup
-  lookup-first k h before here =
-      let e : 0 + k ≡ k = omega arith in
-      found (entries directory) 0 k h (λ (j : ℕ) (l : j < k). moved (0 + j) j (omega arith) ∙ before j l) (moved (0 + k) k e ∙ here)
-      ∙ ap (entryPart directory samples) e
+  lookup-last k h after here = lookup-below (suc k) h after ∙ looked-yes refl here
 
 -- ---- number 12
 or-swap : (a b : Bool) → (a || b) ≡ (b || a)

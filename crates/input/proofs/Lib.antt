@@ -2,5 +2,7 @@
 
 -- the channel lookup and the directory
 pub mod Input
--- the first entry of each input
-pub mod Starts
+-- an entry appended to the directory
+pub mod Appended
+-- the place behind the last entry of each input
+pub mod Ends

@@ -28,15 +28,16 @@ entryFor directory input channel i = eqb (entryWord directory i 0) input && eqb 
 abbrev pub entryPart : List ℕ → List Float → ℕ → List Float
 entryPart directory samples i = part (entryWord directory i 2) (entryWord directory i 3) samples
 
--- the channel lookup: the part of the samples that the first matching entry names, from entry i on of n, or an empty part
-unfoldable pub lookupFrom : List ℕ → List Float → ℕ → ℕ → ℕ → ℕ → List Float
-lookupFrom directory samples input channel zero i = []
-lookupFrom directory samples input channel (suc n) i =
-    cond (entryFor directory input channel i) (entryPart directory samples i) (lookupFrom directory samples input channel n (i + 1))
+-- the channel lookup among the first n entries: the part of the samples that the last matching one names, however short, or an empty part
+unfoldable pub lookupBelow : List ℕ → List Float → ℕ → ℕ → ℕ → List Float
+lookupBelow directory samples input channel zero = []
+lookupBelow directory samples input channel (suc n) =
+    cond (entryFor directory input channel n) (entryPart directory samples n) (lookupBelow directory samples input channel n)
 
+-- and among all
 unfoldable pub lookup : List ℕ → List Float → ℕ → ℕ → List Float
-unfolding lookupFrom
-lookup directory samples input channel = lookupFrom directory samples input channel (entries directory) 0
+unfolding lookupBelow
+lookup directory samples input channel = lookupBelow directory samples input channel (entries directory)
 
 -- ---- number 12: "directory not in fours, over 512 entries, or a part past the samples"
 

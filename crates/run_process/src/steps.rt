@@ -18,12 +18,12 @@ ghost use Rattle.plan.specs.Sound.{Passes};
 ghost use Rattle.plan.specs.Resolved.{resolved};
 ghost use Rattle.plan.specs.Loops.{channels, channelsOf};
 ghost use Rattle.input.specs.Input.{maxEntries, entries, lookup};
-ghost use Rattle.input.specs.Loops.{Starts};
+ghost use Rattle.input.specs.Loops.{Ends};
 ghost use Rattle.run.specs.Run.{state, stepped, runSteps};
 ghost use Rattle.run.specs.Loops.{Fit, FitStep};
 
 // A step, after `wrote` samples of output; the answer is how many are written then. Requires what the tests said of the plan and of it, and
-// the starts of the directory. All kinds are in one match: a second one costs some nanoseconds a step.
+// the ends of the directory. All kinds are in one match: a second one costs some nanoseconds a step.
 fn run_step(
     plan: Plan,
     indices: &[u32],
@@ -32,14 +32,14 @@ fn run_step(
     words: &mut [u32],
     buffers: &mut [f32],
     directory: &[u32],
-    starts: &[u16],
+    ends: &[u16],
     samples: &[f32],
     output: &mut [f32],
     wrote: usize,
     step: Step,
 ) -> usize
     requires { ⌜ FitStep plan (now indices) (now coefficients) (state (now floats) (now words) (now buffers) (now output) wrote) step × (wrote + channels step * plan .block ≤ length (now output)) ⌝ }
-    requires { ⌜ Starts (now directory) (now starts) ⌝ }
+    requires { ⌜ Ends (now directory) (entries (now directory)) (now ends) ⌝ }
     ensures { λ r. ⌜ state (now (floats .exit)) (now (words .exit)) (now (buffers .exit)) (now (output .exit)) r
         ≡ stepped (plan .block) (lookup (now (directory .entry)) (now (samples .entry))) (resolved plan (now (indices .entry)) (now (coefficients .entry)) step) (state (now (floats .entry)) (now (words .entry)) (now (buffers .entry)) (now (output .entry)) wrote) ⌝ }
 {
@@ -49,7 +49,7 @@ fn run_step(
             channel,
             dst,
         } => {
-            let part = input::lookup_by_start(directory, starts, samples, input, channel);
+            let part = input::lookup_by_end(directory, ends, samples, input, channel);
             patch(buffers, plan.block, dst as usize, part);
         }
         Step::Gain { node, src, dst } => {
@@ -76,7 +76,7 @@ fn run_step(
 }
 
 // The steps of the step words, in order; the answer is how many samples were written. Requires what the tests said of the plan and its
-// steps, and the starts of the directory.
+// steps, and the ends of the directory.
 fn run_steps(
     plan: Plan,
     indices: &[u32],
@@ -86,12 +86,12 @@ fn run_steps(
     steps: &[u32],
     buffers: &mut [f32],
     directory: &[u32],
-    starts: &[u16],
+    ends: &[u16],
     samples: &[f32],
     output: &mut [f32],
 ) -> usize
     requires { ⌜ Fit plan (now coefficients) (state (now floats) (now words) (now buffers) (now output) 0) × Passes plan (now indices) (now steps) (plan .steps) 0 ⌝ }
-    requires { ⌜ Starts (now directory) (now starts) ⌝ }
+    requires { ⌜ Ends (now directory) (entries (now directory)) (now ends) ⌝ }
     requires { ⌜ channelsOf (decoded (now steps) (plan .steps)) * plan .block ≤ length (now output) ⌝ }
     ensures { λ r. ⌜ state (now (floats .exit)) (now (words .exit)) (now (buffers .exit)) (now (output .exit)) r
         ≡ runSteps (plan .block) (lookup (now (directory .entry)) (now (samples .entry))) (map (resolved plan (now (indices .entry)) (now (coefficients .entry))) (decoded (now (steps .entry)) (plan .steps))) (state (now (floats .entry)) (now (words .entry)) (now (buffers .entry)) (now (output .entry)) 0) ⌝ }
@@ -110,7 +110,7 @@ fn run_steps(
             words,
             buffers,
             directory,
-            starts,
+            ends,
             samples,
             output,
             wrote,
@@ -139,9 +139,9 @@ pub fn run_block(
     ensures { λ r. ⌜ state (now (floats .exit)) (now (words .exit)) (now (buffers .exit)) (now (output .exit)) r
         ≡ runSteps (plan .block) (lookup (now (directory .entry)) (now (samples .entry))) (map (resolved plan (now (indices .entry)) (now (coefficients .entry))) (decoded (now (steps .entry)) (plan .steps))) (state (now (floats .entry)) (now (words .entry)) (now (buffers .entry)) (now (output .entry)) 0) ⌝ }
 {
-    // So that a Patch starts at the first entry of its input; an input without one has a place past the last entry.
-    let mut starts = [input::NO_ENTRY; input::STARTS];
-    input::search_starts(directory, &mut starts);
+    // So that a Patch searches from the last entry of its input down; an input without one has no entry below 0.
+    let mut ends = [0; input::ENDS];
+    input::search_ends(directory, &mut ends);
     run_steps(
         plan,
         indices,
@@ -151,7 +151,7 @@ pub fn run_block(
         steps,
         buffers,
         directory,
-        &starts[..],
+        &ends[..],
         samples,
         output,
     )

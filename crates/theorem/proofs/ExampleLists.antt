@@ -1,6 +1,6 @@
 -- The statement is not empty: two builds of one plan, for blocks of 1 and of 2 samples, and two lists of calls, computed, for which every premise
--- holds. Other calls are refused in one build than in the other, and in one list than in the other, and an input that is not listed carries other
--- samples. Assumes nothing.
+-- holds. Other calls are refused in one build than in the other, and in one list than in the other, an input that is not listed carries other
+-- samples, and a channel has two entries in a directory of each list. Assumes nothing.
 use Prim.Native.Nat.{ℕ, _≤_, _<_}
 use native.Mathlib.Nat.{zero-add}
 use native.Mathlib.Omega.{arith}
@@ -52,7 +52,8 @@ second =
       calls = tables ++ coefficients (one ∷ one ∷ []) ∷ node 7 (two ∷ []) 5 ∷ layout ++ step (5 ∷ 0 ∷ 0 ∷ []) ∷ [];
     }
 
--- refused: an id that is unknown (9), a directory that is not in fours (12), a ramp too long (10)
+-- refused: an id that is unknown (9), a directory that is not in fours (12), a ramp too long (10); in the last run but one an entry for channel 0 of
+-- input 0 is appended, where the first one names a NaN
 abbrev firstCalls : List calls.Call
 firstCalls =
     set 9 (two ∷ []) 0
@@ -61,7 +62,7 @@ firstCalls =
     ∷ run (0 ∷ 0 ∷ 0 ∷ 1 ∷ 0 ∷ 1 ∷ 0 ∷ 0 ∷ []) (two ∷ []) (replicate 4 nan)
     ∷ set 7 (two ∷ []) 0
     ∷ set 7 (three ∷ []) 16777217
-    ∷ run (0 ∷ 0 ∷ 0 ∷ 1 ∷ 3 ∷ 0 ∷ 0 ∷ 1 ∷ []) (three ∷ []) (replicate 3 nan)
+    ∷ run (0 ∷ 0 ∷ 1 ∷ 1 ∷ 3 ∷ 0 ∷ 0 ∷ 1 ∷ 0 ∷ 0 ∷ 0 ∷ 1 ∷ []) (three ∷ nan ∷ []) (replicate 3 nan)
     ∷ run (0 ∷ 0 ∷ 0 ∷ 1 ∷ []) (four ∷ []) (replicate 3 nan)
     ∷ []
 
@@ -69,7 +70,7 @@ firstCalls =
 abbrev secondCalls : List calls.Call
 secondCalls =
     run (0 ∷ 0 ∷ 0 ∷ 2 ∷ []) (one ∷ two ∷ []) (replicate 5 nan)
-    ∷ run (0 ∷ 0 ∷ 0 ∷ 2 ∷ 0 ∷ 1 ∷ 1 ∷ 1 ∷ 3 ∷ 0 ∷ 0 ∷ 2 ∷ []) (one ∷ two ∷ []) (replicate 6 nan)
+    ∷ run (0 ∷ 0 ∷ 0 ∷ 2 ∷ 0 ∷ 1 ∷ 0 ∷ 2 ∷ 3 ∷ 0 ∷ 0 ∷ 2 ∷ 0 ∷ 1 ∷ 1 ∷ 1 ∷ []) (one ∷ two ∷ []) (replicate 6 nan)
     ∷ set 8 (two ∷ []) 16777217
     ∷ set 7 (two ∷ []) 0
     ∷ run (0 ∷ 0 ∷ 1 ∷ 2 ∷ []) (three ∷ four ∷ []) (replicate 6 nan)
@@ -94,13 +95,13 @@ firstEntries =
     ran (0 ∷ 0 ∷ 0 ∷ 3 ∷ 3 ∷ 0 ∷ 1 ∷ 1 ∷ []) (one ∷ three ∷ three ∷ []) (one ∷ two ∷ three ∷ [])
     ∷ ran (0 ∷ 0 ∷ 0 ∷ 1 ∷ 0 ∷ 1 ∷ 0 ∷ 0 ∷ []) (two ∷ []) (two ∷ four ∷ silence ∷ nan ∷ [])
     ∷ setting 7 0 (two ∷ [])
-    ∷ ran (0 ∷ 0 ∷ 0 ∷ 1 ∷ 3 ∷ 0 ∷ 0 ∷ 1 ∷ []) (three ∷ []) (six ∷ twentyFour ∷ three ∷ [])
+    ∷ ran (0 ∷ 0 ∷ 1 ∷ 1 ∷ 3 ∷ 0 ∷ 0 ∷ 1 ∷ 0 ∷ 0 ∷ 0 ∷ 1 ∷ []) (three ∷ nan ∷ []) (six ∷ twentyFour ∷ three ∷ [])
     ∷ ran (0 ∷ 0 ∷ 0 ∷ 1 ∷ []) (four ∷ []) (eight ∷ thirtyTwo ∷ silence ∷ [])
     ∷ []
 
 abbrev secondEntries : List Entry
 secondEntries =
-    ran (0 ∷ 0 ∷ 0 ∷ 2 ∷ 0 ∷ 1 ∷ 1 ∷ 1 ∷ 3 ∷ 0 ∷ 0 ∷ 2 ∷ []) (one ∷ two ∷ []) (one ∷ two ∷ two ∷ four ∷ one ∷ two ∷ [])
+    ran (0 ∷ 0 ∷ 0 ∷ 2 ∷ 0 ∷ 1 ∷ 0 ∷ 2 ∷ 3 ∷ 0 ∷ 0 ∷ 2 ∷ 0 ∷ 1 ∷ 1 ∷ 1 ∷ []) (one ∷ two ∷ []) (one ∷ two ∷ two ∷ four ∷ one ∷ two ∷ [])
     ∷ setting 7 0 (two ∷ [])
     ∷ ran (0 ∷ 0 ∷ 1 ∷ 2 ∷ []) (nan ∷ three ∷ four ∷ []) (six ∷ eight ∷ twentyFour ∷ thirtyTwo ∷ silence ∷ silence ∷ nan ∷ [])
     ∷ []
@@ -128,8 +129,8 @@ given =
       );
     }
 
--- input 0 alone is listed behind slot 0; its channel 0 is present whole, and its channel 1 absent: in one run of the second list its part is
--- shorter than the block
+-- input 0 alone is listed behind slot 0; its channel 0 is present whole, and its channel 1 absent: in one run of the second list its last part is
+-- shorter than the block, and the one before it is not
 pub listed : ListedCarryEqual lists 0
 unfolding definitions someChannelFrom
 listed =

@@ -1,14 +1,15 @@
--- `input::lookup` meets its contract: no entry is before the first. Assumes nothing.
-use native.Mathlib.Omega.{arith}
+-- `input::lookup` meets its contract: it is over all entries. Assumes nothing.
+use Rattle.input.specs.Input.{lookup}
 use borrow.Author.Needs.{needs}
 use Rattle.input.proofs.lookup.Statement.{statement}
 use Rattle.input.proofs.lookup.Tie as tie
 
-lookup-from-requires : tie.Need-lookup-from-requires
-lookup-from-requires c κs = λ j h l. absurd (omega (arith, l))
+lookup-below-requires : tie.Need-lookup-below-requires
+lookup-below-requires c κs = search needs
 
 returns : tie.Need-returns
+unfolding lookup
 returns c = search needs
 
 pub lookup-spec : {M : Type 1} → statement M
-lookup-spec = tie.close (tie.spec lookup-from-requires returns)
+lookup-spec = tie.close (tie.spec lookup-below-requires returns)

@@ -3,8 +3,8 @@ use borrow.Author.Needs.{needs}
 use Rattle.run_process.proofs.steps.run_block.Statement.{statement}
 use Rattle.run_process.proofs.steps.run_block.Tie as tie
 
-search-starts-requires : tie.Need-search-starts-requires
-search-starts-requires c κs = search needs
+search-ends-requires : tie.Need-search-ends-requires
+search-ends-requires c κs = search needs
 
 slice-aggregate-run-steps : tie.Need-slice-aggregate-run-steps
 slice-aggregate-run-steps c = search needs
@@ -12,7 +12,7 @@ slice-aggregate-run-steps c = search needs
 run-steps-requires : tie.Need-run-steps-requires
 run-steps-requires c κs =
     let s = c .before .before .before .before .before .before .before .before .before .before .before .before .before .before .before .before in
-    (s .pre .0, (c .before .before .before .before .before .search-starts .ensures, s .pre .1 .0))
+    (s .pre .0, (c .before .before .before .before .before .search-ends .ensures, s .pre .1 .0))
 
 same-length : tie.Need-same-length
 same-length c = search needs
@@ -33,7 +33,7 @@ pub run-block-spec : {M : Type 1} → statement M
 run-block-spec =
     tie.close
     (tie.spec
-    search-starts-requires
+    search-ends-requires
     slice-aggregate-run-steps
     run-steps-requires
     same-length

@@ -21,8 +21,8 @@ use Rattle.run_process.proofs.steps.run_step.Tie as tie
 enum-known-step : tie.Need-enum-known-step
 enum-known-step c = search needs
 
-lookup-by-start-requires : tie.Need-lookup-by-start-requires
-lookup-by-start-requires c κs =
+lookup-by-end-requires : tie.Need-lookup-by-end-requires
+lookup-by-end-requires c κs =
     let s = c .before .before .before .before .before .before .before .before .before .before .before .before in
     let f = step-as (c .before .step .given .1) (s .pre .0 .0) in
     (f .inside .0, s .pre .1)
@@ -108,7 +108,7 @@ unfolding stepped
 returns-2 c =
     let a = c .before .before .before .before .before .before .before .before .before .before .before .before .before .before .before .before .before .args in
     let d = c .before .before .before .before .before .before .step .given .0 .1 .1 .0 in
-    let e = c .before .before .patch .ensures ∙ ap (λ (p : List Float). put (a .plan .block) d (patched (a .plan .block) p) (a .buffers .now)) (c .before .before .before .before .lookup-by-start .ensures) in
+    let e = c .before .before .patch .ensures ∙ ap (λ (p : List Float). put (a .plan .block) d (patched (a .plan .block) p) (a .buffers .now)) (c .before .before .before .before .lookup-by-end .ensures) in
     rw (c .before .before .before .before .before .before .step .given .1, e)
 
 same-length-4 : tie.Need-same-length-4
@@ -174,7 +174,7 @@ run-step-spec =
     tie.close
     (tie.spec
     enum-known-step
-    lookup-by-start-requires
+    lookup-by-end-requires
     cast-patch
     patch-requires
     enum-known-step-2
