@@ -9,6 +9,7 @@ mod refused;
 mod runs;
 mod settings;
 mod sheet;
+mod stand_in;
 mod steps;
 mod strips;
 

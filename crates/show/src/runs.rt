@@ -2,6 +2,7 @@
 use crate::layout;
 use crate::refused;
 use crate::settings;
+use crate::stand_in;
 use format::Format;
 use plan::Plan;
 use refusal::Answer;
@@ -39,7 +40,7 @@ pub fn ran(
     let mut samples = [0.0f32; inputs::SAMPLES];
     inputs::directory(&mut directory);
     inputs::play(from, &mut samples);
-    run_process::process(
+    let ran = run_process::process(
         plan,
         indices,
         coefficients,
@@ -47,10 +48,12 @@ pub fn ran(
         words,
         steps,
         buffers,
-        &directory,
+        stand_in::directory_at(from, &directory),
         &samples,
         output,
-    )
+    );
+    stand_in::line(from, &samples, &buffers[..]);
+    ran
 }
 
 // The digest of each slot, with a block more. The slots' blocks stand one after the other in the output area, channel by channel. Requires a

@@ -1,0 +1,44 @@
+// A stand-in for the narrator's microphone. Its samples are lent in every block; from one block on its entry stands at the directory's end.
+use crate::settings;
+use signals::BLOCK;
+use signals::digest;
+use signals::inputs;
+ghost use mathlib.Core.Path.{_≡_};
+ghost use lib.ListN.{length};
+
+// The sample that its first block starts at.
+const AT: u32 = 168_192;
+
+// What the block from a sample on is lent of a directory whose last entry is the stand-in's. Requires the directory of all channels.
+pub fn directory_at(from: u32, directory: &[u32]) -> &[u32]
+    requires { ⌜ length (now directory) ≡ 56 ⌝ }
+{
+    if from < AT {
+        return &directory[0..inputs::DIRECTORY - 4];
+    }
+    directory
+}
+
+// Its line, behind its first block: it is heard where the narrator's buffer, the first of the plan, has its samples, the last of those lent.
+// Requires the samples of all channels.
+pub fn line(from: u32, samples: &[f32], buffers: &[f32])
+    requires { ⌜ length (now samples) ≡ 3584 ⌝ }
+{
+    if from != AT {
+        return;
+    }
+    if buffers.len() < BLOCK {
+        return;
+    }
+    settings::line(
+        from as usize,
+        b"a stand-in for the narrator appended to the directory; heard: ",
+    );
+    let played = digest::of_samples(digest::empty(), &samples[inputs::SAMPLES - BLOCK..]);
+    let heard = digest::of_samples(digest::empty(), &buffers[0..BLOCK]);
+    if played == heard {
+        text::put(b"yes\n");
+        return;
+    }
+    text::put(b"no\n");
+}
