@@ -235,6 +235,25 @@ static void looked_up(void)
     CHECK(mixer_directory_bad(directory, SAMPLES, DIRECTORY));
 }
 
+/* Entries for one channel, another's among them: the last of them decides, one of no samples too. */
+static void looked_up_last(void)
+{
+    static uint32_t again[ROOM] = {9, 0, 0, 2, 9, 0, 2, 1, 9, 1, 3, 2, 9, 0, 4, 0};
+    static float part[ROOM] = {7, 7, 7};
+    mixer_count_reply r = mixer_lookup(again, 8, samples, SAMPLES, 9, 0, part, 2);
+    ACCEPTED(r.status);
+    CHECK(r.count == 1 && part[0] == samples[2] && part[1] == 7);
+    r = mixer_lookup(again, 12, samples, SAMPLES, 9, 0, part, 2);
+    ACCEPTED(r.status);
+    CHECK(r.count == 1 && part[0] == samples[2] && part[1] == 7);
+    r = mixer_lookup(again, 12, samples, SAMPLES, 9, 1, part, 2);
+    ACCEPTED(r.status);
+    CHECK(r.count == 2 && part[0] == samples[3] && part[1] == samples[4] && part[2] == 7);
+    r = mixer_lookup(again, 16, samples, SAMPLES, 9, 0, NULL, 0);
+    ACCEPTED(r.status);
+    CHECK(r.count == 0);
+}
+
 static mixer_count_reply sources(mixer_plan p, uint32_t slot, uint16_t *list, size_t list_len)
 {
     return mixer_output_sources(p, slot, indices, INDICES, node_words, NODE_WORDS, steps, WORDS, list, list_len);
@@ -351,6 +370,7 @@ int main(void)
     adopted(p);
     ran(p);
     looked_up();
+    looked_up_last();
     traced(p);
     all_traced(p);
     formats();

@@ -7,9 +7,10 @@
 enum { BLOCK = 4, BUFFERS = 7, NODES = 3, CHANNELS = 3, MICROPHONE = 12, BAND = 40, HALL = 0, STAGE = 1 };
 enum { STRIP_LEVEL = 100, BAND_LEVEL = 101, STAGE_LEVEL = 102 };
 
-/* The record of a plan and its areas. */
+/* The record of a plan and its areas, and the entries of the directory that it is run with. */
 struct desk {
     mixer_plan plan;
+    size_t entries;
     uint32_t indices[16];
     float coefficients[16];
     float node_floats[NODES * MIXER_NODE_FLOATS];
@@ -107,13 +108,13 @@ static void build(struct desk *d)
     printf("built: %zu buffers, %zu nodes, %zu steps of %zu words\n", d->plan.buffers, d->plan.nodes, d->plan.steps, d->plan.words);
 }
 
-/* One block with the microphone at 1 and the band at 0.25 and -0.25, into an output area of n samples. */
+/* One block with the microphone at 1, the band at 0.25 and -0.25 and a stand-in for the microphone at 0.5, into an output area of n samples. */
 static mixer_count_reply run(struct desk *d, float *output, size_t n)
 {
-    static const uint32_t directory[] = {MICROPHONE, 0, 0, BLOCK, BAND, 0, BLOCK, BLOCK, BAND, 1, 2 * BLOCK, BLOCK};
-    static const float samples[] = {1, 1, 1, 1, 0.25f, 0.25f, 0.25f, 0.25f, -0.25f, -0.25f, -0.25f, -0.25f};
+    static const uint32_t directory[] = {MICROPHONE, 0, 0, BLOCK, BAND, 0, BLOCK, BLOCK, BAND, 1, 2 * BLOCK, BLOCK, MICROPHONE, 0, 3 * BLOCK, BLOCK};
+    static const float samples[] = {1, 1, 1, 1, 0.25f, 0.25f, 0.25f, 0.25f, -0.25f, -0.25f, -0.25f, -0.25f, 0.5f, 0.5f, 0.5f, 0.5f};
     return mixer_process(d->plan, AREA(d->indices), AREA(d->coefficients), AREA(d->node_floats), AREA(d->node_words), AREA(d->steps),
-                         AREA(d->buffers), AREA(directory), AREA(samples), output, n);
+                         AREA(d->buffers), directory, 4 * d->entries, AREA(samples), output, n);
 }
 
 static void block(struct desk *d)
@@ -163,11 +164,15 @@ int main(void)
     uint16_t list[MIXER_INPUTS];
     mixer_clean_reply clean;
     build(&d);
+    d.entries = 3;
     block(&d);
     printf("strip to 1 over 8 samples\n");
     expect("set_param", level(&d, STRIP_LEVEL, 1.0f, 8));
     block(&d);
     block(&d);
+    block(&d);
+    printf("a stand-in for the microphone appended to the directory\n");
+    d.entries = 4;
     block(&d);
     refused("a setting of an unknown node", level(&d, 7, 1.0f, 0));
     refused("an output area that is short", run(&d, output, CHANNELS * BLOCK - 1).status);

@@ -134,9 +134,10 @@ impl Status {
     }
 }
 
-/// The record of a plan and its areas.
+/// The record of a plan and its areas, and the entries of the directory that it is run with.
 struct Desk {
     plan: Plan,
+    entries: usize,
     indices: [u32; 16],
     coefficients: [f32; 16],
     floats: [f32; NODES * NODE_FLOATS],
@@ -151,6 +152,7 @@ impl Desk {
         r.status.result()?;
         Ok(Desk {
             plan: r.plan,
+            entries: 3,
             indices: [0; 16],
             coefficients: [0.0; 16],
             floats: [0.0; NODES * NODE_FLOATS],
@@ -217,14 +219,15 @@ impl Desk {
         unsafe { mixer_set_param(self.plan, id, &value, 1, ramp, f.as_mut_ptr(), f.len(), w.as_mut_ptr(), w.len()) }.result()
     }
 
-    /// One block with the microphone at 1 and the band at 0.25 and -0.25.
+    /// One block with the microphone at 1, the band at 0.25 and -0.25 and a stand-in for the microphone at 0.5.
     #[rustfmt::skip]
     fn run(&mut self, output: &mut [f32]) -> Result<usize, Refused> {
         let n = BLOCK as u32;
-        let directory = [MICROPHONE, 0, 0, n, BAND, 0, n, n, BAND, 1, 2 * n, n];
-        let mut samples = [1.0; 3 * BLOCK];
+        let directory = &[MICROPHONE, 0, 0, n, BAND, 0, n, n, BAND, 1, 2 * n, n, MICROPHONE, 0, 3 * n, n][..4 * self.entries];
+        let mut samples = [1.0; 4 * BLOCK];
         samples[BLOCK..2 * BLOCK].fill(0.25);
-        samples[2 * BLOCK..].fill(-0.25);
+        samples[2 * BLOCK..3 * BLOCK].fill(-0.25);
+        samples[3 * BLOCK..].fill(0.5);
         let r = unsafe {
             mixer_process(self.plan, self.indices.as_ptr(), self.indices.len(), self.coefficients.as_ptr(), self.coefficients.len(),
                 self.floats.as_mut_ptr(), self.floats.len(), self.words.as_mut_ptr(), self.words.len(),
@@ -315,6 +318,9 @@ fn main() -> Result<(), Refused> {
     d.level(STRIP_LEVEL, 1.0, 8)?;
     block(&mut d)?;
     block(&mut d)?;
+    block(&mut d)?;
+    println!("a stand-in for the microphone appended to the directory");
+    d.entries = 4;
     block(&mut d)?;
     refused("a setting of an unknown node", d.level(7, 1.0, 0));
     refused("an output area that is short", d.run(&mut output[1..]));
