@@ -3,20 +3,34 @@ use crate::desks::{mixer as desk, Draft, Sends, Weights};
 use crate::judge::Found;
 use crate::mixer::Span;
 use crate::plan::Step;
-use crate::races::{Check, Desk, Nodes};
+use crate::races::{Check, Desk, Inputs, Nodes};
 use crate::stopwatch::Table;
 
 const STEPS: usize = 64;
 /// Stereo sources and destinations, used in turn: few, so that all stay in the nearest cache.
 const PAIRS: usize = 4;
-/// Stereo inputs in the directory.
-const INPUTS: usize = 32;
+/// Where no other are named.
+const INPUTS: Inputs = Inputs(32, 2);
+const MANY: Inputs = Inputs(256, 2);
+const ONE: Inputs = Inputs(1, 512);
+
+/// Patches of one channel: the inputs in the directory, and its input and channel. No channel is twice there.
+const PATCHES: [(&str, Inputs, [u32; 2]); 8] = [
+    ("entry-1", INPUTS, [0, 0]),
+    ("entry-63", INPUTS, [31, 0]),
+    ("of-32 first", Inputs(16, 2), [0, 0]),
+    ("of-32 last", Inputs(16, 2), [15, 1]),
+    ("of-512 first", MANY, [0, 0]),
+    ("of-512 last", MANY, [255, 1]),
+    ("one-input-512 first", ONE, [0, 0]),
+    ("one-input-512 last", ONE, [0, 511]),
+];
 
 /// Step i of a kind, from a stereo source to a stereo destination.
 type Kind = fn(&mut Draft, usize, Span, Span) -> Step;
 
 /// A plan of one kind, whose buffers hold samples.
-fn alone(kind: Kind, nodes: Nodes, block: usize) -> Result<Desk, String> {
+fn alone(kind: impl Fn(&mut Draft, usize, Span, Span) -> Step, inputs: Inputs, nodes: Nodes, block: usize) -> Result<Desk, String> {
     let mut d = Draft::new(block);
     let pairs: Vec<_> = (0..PAIRS).map(|_| (d.buffers(2), d.buffers(2))).collect();
     for i in 0..STEPS {
@@ -24,13 +38,9 @@ fn alone(kind: Kind, nodes: Nodes, block: usize) -> Result<Desk, String> {
         let step = kind(&mut d, i, src, dst);
         d.step(step);
     }
-    let mut desk = Desk::new(d.0, INPUTS, nodes)?;
+    let mut desk = Desk::with(d.0, inputs, nodes)?;
     desk.fill_buffers();
     Ok(desk)
-}
-
-fn patch(d: &mut Draft, input: usize, dst: Span) -> Step {
-    Step::Patch { input: input as u32, channel: 0, dst: d.0.index[dst.start as usize] }
 }
 
 fn gain(d: &mut Draft, _: usize, src: Span, dst: Span) -> Step {
@@ -55,9 +65,7 @@ fn straight(d: &mut Draft, _: usize, src: Span, dst: Span) -> Step {
 
 pub fn all(t: &mut Table) -> Found {
     use Nodes::{Ramping, Rest};
-    let kinds: [(&str, Nodes, Kind); 13] = [
-        ("patch entry-1", Rest, |d, _, _, dst| patch(d, 0, dst)),
-        ("patch entry-63", Rest, |d, _, _, dst| patch(d, INPUTS - 1, dst)),
+    let kinds: [(&str, Nodes, Kind); 11] = [
         ("clear", Rest, |_, _, _, dst| Step::Clear { dst }),
         ("gain rest", Rest, gain),
         ("gain ramping", Ramping, gain),
@@ -70,19 +78,26 @@ pub fn all(t: &mut Table) -> Found {
         ("send identity ramping", Ramping, straight),
         ("output", Rest, |_, i, src, _| Step::Output { src, slot: i as u32 % 32 }),
     ];
+    let scale = 1e3 / STEPS as f64;
     t.head("ns a step (stereo, a Patch mono)");
     for block in [256, 1] {
+        for (name, inputs, [input, channel]) in PATCHES {
+            let patch = |d: &mut Draft, _, _, dst: Span| Step::Patch { input, channel, dst: d.0.index[dst.start as usize] };
+            t.line(&format!("patch {name} {block}"), scale, None, || alone(patch, inputs, Rest, block))?;
+        }
         for (name, nodes, kind) in kinds {
-            t.line(&format!("{name} {block}"), 1e3 / STEPS as f64, None, || alone(kind, nodes, block))?;
+            t.line(&format!("{name} {block}"), scale, None, || alone(kind, INPUTS, nodes, block))?;
         }
     }
     fixed(t)
 }
 
-/// What every call costs, whatever the block: an empty plan with its directory, whole plans of one sample, and their check alone.
+/// What every call costs, whatever the block: an empty plan with its directory, a long one too, whole plans of one sample, and their check alone.
 fn fixed(t: &mut Table) -> Found {
     t.head("us a call");
-    t.line("process no-steps", 1.0, None, || Desk::new(Draft::new(1).0, INPUTS, Nodes::Rest))?;
+    for (name, inputs) in [("process no-steps", INPUTS), ("process no-steps of-512", MANY), ("process no-steps one-input-512", ONE)] {
+        t.line(name, 1.0, None, || Desk::with(Draft::new(1).0, inputs, Nodes::Rest))?;
+    }
     for (strips, buses) in [(32, 9), (8, 2)] {
         let layout = || desk(1, strips, buses, Weights::Full, Sends::All);
         t.line(&format!("process {strips}x{buses} full rest 1"), 1.0, None, || Desk::new(layout(), strips, Nodes::Rest))?;

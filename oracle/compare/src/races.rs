@@ -34,16 +34,22 @@ impl Nodes {
     }
 }
 
-/// The channels of stereo inputs, found without a search: nothing answers the reference sooner. The port is lent the same samples with a directory,
+/// So many inputs of so many channels each, in this order in the directory.
+#[derive(Clone, Copy)]
+pub struct Inputs(pub usize, pub usize);
+
+/// The channels of inputs, found without a search: nothing answers the reference sooner. The port is lent the same samples with a directory,
 /// which it checks and searches.
 struct Channels<'a> {
     block: usize,
+    /// Of each input.
+    channels: usize,
     samples: &'a [f32],
 }
 
 impl InputSource for Channels<'_> {
     fn channel(&self, input: usize, channel: usize) -> Option<&[f32]> {
-        let at = (2 * input + channel) * self.block;
+        let at = (self.channels * input + channel) * self.block;
         self.samples.get(at..at + self.block)
     }
 }
@@ -65,6 +71,7 @@ impl OutputSink for Area {
 pub struct Desk {
     twin: Twin,
     input: Input,
+    channels: usize,
     node_floats: Vec<f32>,
     node_words: Vec<u32>,
     rust_output: Area,
@@ -73,17 +80,23 @@ pub struct Desk {
     refused: u32,
 }
 
-/// Stereo inputs, each with a block of samples.
-fn inputs(block: usize, inputs: usize) -> Input {
+/// Inputs whose channels have a block of samples each.
+fn inputs(block: usize, Inputs(count, channels): Inputs) -> Input {
     let mut r = Rng::new(9);
-    let entry = |i: usize| [i / 2, i % 2, i * block, block].map(|x| x as u32);
-    Input { directory: (0..2 * inputs).flat_map(entry).collect(), samples: (0..2 * inputs * block).map(|_| r.unit()).collect() }
+    let entries = count * channels;
+    let entry = |i: usize| [i / channels, i % channels, i * block, block].map(|x| x as u32);
+    Input { directory: (0..entries).flat_map(entry).collect(), samples: (0..entries * block).map(|_| r.unit()).collect() }
 }
 
 impl Desk {
-    /// Builds a layout on both sides, sets the nodes that ramp on their way, and compares a block.
+    /// A layout with a stereo input for each strip.
     pub fn new(layout: Layout, strips: usize, nodes: Nodes) -> Result<Self, String> {
-        let input = inputs(layout.block, strips);
+        Self::with(layout, Inputs(strips, 2), nodes)
+    }
+
+    /// Builds a layout on both sides, sets the nodes that ramp on their way, and compares a block.
+    pub fn with(layout: Layout, of: Inputs, nodes: Nodes) -> Result<Self, String> {
+        let input = inputs(layout.block, of);
         let samples = layout.output_channels() * layout.block;
         let j = &mut Judge::default();
         let mut twin = building::build(j, &mut Gen::new(9), layout)?;
@@ -94,7 +107,7 @@ impl Desk {
         twin.run(j, &input, 0)?;
         let (node_floats, node_words) = (twin.port.floats.clone(), twin.port.words.clone());
         let rust_output = Area { samples: vec![0.0; samples], at: 0 };
-        Ok(Desk { twin, input, node_floats, node_words, rust_output, output: vec![0.0; samples], refused: 0 })
+        Ok(Desk { twin, input, channels: of.1, node_floats, node_words, rust_output, output: vec![0.0; samples], refused: 0 })
     }
 
     /// Samples in every buffer, for plans without a Patch.
@@ -121,7 +134,7 @@ impl Race for Desk {
 
     fn rust(&mut self) {
         self.rust_output.at = 0;
-        let input = Channels { block: self.twin.layout.block, samples: &self.input.samples };
+        let input = Channels { block: self.twin.layout.block, channels: self.channels, samples: &self.input.samples };
         self.twin.rust.process(0, black_box(&input), black_box(&mut self.rust_output));
     }
 
