@@ -1,4 +1,5 @@
 //! What the file of `oracle record` must reach. Each name here was counted by a case, or the file is not written.
+use crate::entries::{self, Entries, FULL};
 use crate::mapping;
 use crate::mixer::{FoldGains, Span};
 use crate::ops::{Input, Setting};
@@ -40,7 +41,7 @@ pub const LIMITS: &[&str] = &[
 
 /// How often a branch is to be reached, where it may be reached often.
 pub fn often(name: &str, times: u32) -> u32 {
-    if [LONG_BLOCK, LONG_DIRECTORY].contains(&name) {
+    if [LONG_BLOCK, LONG_DIRECTORY, entries::PATCH[FULL], entries::LOOKUP[FULL]].contains(&name) {
         return 1;
     }
     times
@@ -48,11 +49,6 @@ pub fn often(name: &str, times: u32) -> u32 {
 
 /// What plans, runs, settings, adoptions and lists must show.
 pub const BRANCHES: &[&str] = &[
-    "Patch, no entry",
-    "Patch, a part shorter than the block",
-    "Patch, a part as long as the block",
-    "Patch, a part longer than the block",
-    "Patch, two entries for the channel",
     "Gain at rest",
     "Gain ramping",
     "Gain, the ramp ends in the block",
@@ -107,6 +103,8 @@ pub const BRANCHES: &[&str] = &[
     "a block of more than 16 samples",
     LONG_BLOCK,
     LONG_DIRECTORY,
+    "a run that would show it if the first entry for a channel decided",
+    "a run that would show it if an entry that is too short were passed over",
     "set at once",
     "set with a ramp that ends in the block",
     "set with a ramp as long as the block",
@@ -233,16 +231,6 @@ impl Nodes<'_> {
         }
     }
 
-    fn patch(&mut self, input: &Input, asked: [u32; 2]) {
-        let entries = input.directory.chunks(4).filter(|e| e[..2] == asked).count();
-        let part = paper::lookup(&input.directory, &input.samples, asked[0], asked[1]).len();
-        self.when(entries == 0, "Patch, no entry");
-        self.when(entries > 0 && part < self.block, "Patch, a part shorter than the block");
-        self.when(part == self.block, "Patch, a part as long as the block");
-        self.when(part > self.block, "Patch, a part longer than the block");
-        self.when(entries > 1, "Patch, two entries for the channel");
-    }
-
     fn gain(&mut self, node: u32, src: Span, dst: Span) {
         self.when(dst.len > src.len, "Gain, dst longer than src");
         self.when(src.len > dst.len, "Gain, src longer than dst");
@@ -291,7 +279,9 @@ impl Nodes<'_> {
     fn step(&mut self, l: &Layout, s: &Step, input: &Input) {
         let named = |span: Span| &l.index[span.start as usize..][..span.len as usize];
         match *s {
-            Step::Patch { input: i, channel, .. } => self.patch(input, [i, channel]),
+            Step::Patch { input: i, channel, .. } => {
+                self.seen.extend(Entries::new(input, [i, channel], self.block).names(entries::PATCH));
+            }
             Step::Gain { node, src, dst } => self.gain(node, src, dst),
             Step::Matrix { node, src, dst } => self.matrix(node, src, dst, named(dst)),
             Step::Clear { dst } => self.seen.push(if dst.len > 0 { "Clear" } else { "Clear of nothing" }),
@@ -322,6 +312,9 @@ pub fn run(l: &Layout, a: &Areas, input: &Input, output: &[f32], more: usize) ->
     n.when(l.block > 16, "a block of more than 16 samples");
     n.when(l.block == paper::MAX_BLOCK, LONG_BLOCK);
     n.when(input.directory.len() == 4 * paper::MAX_ENTRIES, LONG_DIRECTORY);
+    let (turned, long) = (entries::turned(&input.directory), entries::long_enough(&input.directory, l.block));
+    n.when(entries::shows(l, input, &turned), "a run that would show it if the first entry for a channel decided");
+    n.when(entries::shows(l, input, &long), "a run that would show it if an entry that is too short were passed over");
     n.when(l.buffers == paper::MAX_BUFFERS, "a plan of 256 buffers");
     n.when(l.index.len() == paper::MAX_INDICES, "a plan of 1,024 index entries");
     n.when(l.coefficients.len() == paper::MAX_COEFFICIENTS, "a plan of 1,024 coefficients");

@@ -219,6 +219,7 @@ fn ran(j: &mut Judge, a: &Areas, steps: &[Step], input: &Input, copies: &mut Cop
     let mut expected = rust::process(&mut rust, &input.directory, &input.samples);
     j.counts.blocks += 1;
     j.counts.samples += expected.len() as u64;
+    j.counts.patched.run(steps, input, a.plan.block);
     expected.resize(copies.output.len(), 7.5);
     floats("output", &expected, &copies.output)?;
     let want = &mut copies.want;

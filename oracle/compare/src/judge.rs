@@ -1,4 +1,5 @@
 //! Comparison: the first difference ends a run. A planted fault changes what the reference says, so that a run must find it.
+use crate::entries::Tally;
 use crate::mixer::Status;
 use crate::shapes::{Pairs, Shapes};
 use std::fmt::Debug;
@@ -94,7 +95,10 @@ faults! {
     BuiltWeight: "the last bit of a coefficient",
     BuiltIndex: "an index entry",
     OldNode: "a node of the old plan after an adoption",
+    FirstEntry: "the first entry for a channel decides in a run",
+    LongEntry: "an entry that is too short is passed over in a run for an earlier one",
     Part: "a looked-up part that is one sample shorter",
+    FirstPart: "a looked-up part by the first entry",
     Number: "a refusal's number",
     Place: "a refusal's place",
     Accepted: "an acceptance in place of a refusal",
@@ -123,6 +127,7 @@ faults! {
     PairList: "a source list of the second build with one input less",
     PairListed: "an input left out of the list of a slot in both builds",
     PairSample: "the last bit of a sample that a listed input carries in the second list",
+    PairEntry: "an entry for a listed channel behind the one that counts, in the second list",
     PairSetting: "a setting in the second list only",
     PairRefused: "a refused setting of the second list that sets a node",
     PairBuilt: "a refused builder call of the second build that sets a node",
@@ -141,6 +146,9 @@ pub struct Counts {
     pub accepted: u64,
     pub refused: [u64; 18],
     pub shapes: Shapes,
+    /// What directories had for the channels of Patches in runs, and for those that were looked up.
+    pub patched: Tally,
+    pub looked_up: Tally,
     pub pairs: Pairs,
 }
 

@@ -4,6 +4,7 @@ mod building;
 mod clean;
 mod damaged;
 mod desks;
+mod entries;
 mod faults;
 mod folds;
 mod judge;
@@ -77,6 +78,12 @@ fn print(c: &Counts) {
     let shapes: Vec<String> = c.shapes.list().iter().map(|(n, what)| format!("{what} {n}")).collect();
     if c.plans > 0 && c.damaged == 0 {
         println!("shapes: {}", shapes.join(", "));
+    }
+    for (what, entries) in [("channels of Patches", &c.patched), ("channels looked up", &c.looked_up)] {
+        let entries: Vec<String> = entries.list().iter().filter(|e| e.0 > 0).map(|(n, what)| format!("{what} {n}")).collect();
+        if !entries.is_empty() {
+            println!("{what}: {}", entries.join(", "));
+        }
     }
     let pairs: Vec<String> = c.pairs.list().iter().map(|(n, what)| format!("{what} {n}")).collect();
     if c.pairs.pairs > 0 {

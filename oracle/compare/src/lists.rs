@@ -1,12 +1,13 @@
 //! The two lists of a pair: settings and runs after the plan that `finish` left, alike in what is accepted, with other refused calls in each.
+use crate::entries::{heard, Entries};
 use crate::judge::{alike, same, Found, Judge};
 use crate::layouts::Gen;
 use crate::mixer::{self, CountReply, Status};
 use crate::ops::Setting;
 use crate::plan::{Areas, Layout, Step, VALUES};
-use crate::planted::{set_by_hand, Last, ODD_GAIN};
+use crate::planted::{set_by_hand, Last, ODD_VALUE};
 use crate::refused::process;
-use crate::signals::{heard, same_values, Carries, Channel};
+use crate::signals::{enter, same_values, Carries, Channel};
 use crate::strays;
 
 /// What the accepted runs of a list wrote to each place of the output area, and what Patches heard of each channel, joined in list order.
@@ -14,6 +15,8 @@ pub struct Wrote {
     side: usize,
     pub output: Vec<Vec<f32>>,
     heard: Vec<Vec<f32>>,
+    /// A Patch of a listed channel passed an entry that must not matter, and a whole one of a channel that is absent.
+    passed: [bool; 2],
 }
 
 pub struct Pair<'a> {
@@ -25,7 +28,7 @@ pub struct Pair<'a> {
     settings: Vec<Vec<Setting>>,
     pub channels: Vec<Channel>,
     sure: bool,
-    /// Done before the last run of the second list.
+    /// Done at the last run of the second list.
     pub last: Option<Last>,
 }
 
@@ -90,7 +93,7 @@ impl<'a> Pair<'a> {
         let mut a = built.clone();
         let often = g.r.pick(&[0, 5, 20]);
         let places = self.l.output_channels();
-        let mut wrote = Wrote { side, output: vec![Vec::new(); places], heard: vec![Vec::new(); self.channels.len()] };
+        let mut wrote = Wrote { side, output: vec![Vec::new(); places], heard: vec![Vec::new(); self.channels.len()], passed: [false; 2] };
         for (i, settings) in self.settings.iter().enumerate() {
             for s in settings {
                 self.strew(j, g, &mut a, often)?;
@@ -132,7 +135,10 @@ impl<'a> Pair<'a> {
 
     fn run(&self, j: &mut Judge, g: &mut Gen, a: &mut Areas, at: usize, wrote: &mut Wrote) -> Found {
         let block = a.plan.block;
-        let input = g.feed(&self.channels, wrote.side, at, block, self.sure);
+        let mut input = g.feed(&self.channels, wrote.side, at, block, self.sure);
+        if let (Some(Last::Entry(way)), true) = (self.last, at + block == self.total()) {
+            enter(&mut input, way.input, way.channel, vec![ODD_VALUE; block]);
+        }
         let mut output = vec![7.5; wrote.output.len() * block + g.r.pick(&[0, 0, 1, 9])];
         let reply = process(a, &input, &mut output);
         j.counts.calls += 1;
@@ -142,17 +148,23 @@ impl<'a> Pair<'a> {
             place.extend(part);
         }
         for (channel, c) in wrote.heard.iter_mut().zip(&self.channels) {
-            channel.extend(heard(c, &input, block));
+            let asked = [c.input, c.channel];
+            channel.extend(heard(&input.directory, &input.samples, asked, block));
+            if c.read && !matches!(c.carries, Carries::Anything) {
+                let entries = Entries::new(&input, asked, block);
+                wrote.passed[0] |= entries.several();
+                wrote.passed[1] |= entries.cut_short();
+            }
         }
         Ok(())
     }
 
     fn plant(&self, j: &mut Judge, g: &mut Gen, a: &mut Areas) -> Found {
         match self.last {
-            None => Ok(()),
+            None | Some(Last::Entry(_)) => Ok(()),
             Some(Last::More(way)) => {
                 let id = way.gain.map_or(0, |(node, _)| self.l.nodes[node].id);
-                set(j, g, a, &Setting { id, values: vec![ODD_GAIN; VALUES], ramp: 0 })
+                set(j, g, a, &Setting { id, values: vec![ODD_VALUE; VALUES], ramp: 0 })
             }
             Some(Last::Refused(way)) => {
                 strays::setting(j, g, self.l, a)?;
@@ -175,6 +187,8 @@ impl<'a> Pair<'a> {
         c.settings += self.settings[1..].iter().any(|s| !s.is_empty()) as u64;
         c.missing += self.channels.iter().any(|c| c.read && matches!(c.carries, Carries::Anything) && c.missing[0] != c.missing[1]) as u64;
         c.absent += self.channels.iter().any(|c| c.read && matches!(c.carries, Carries::Absent)) as u64;
+        c.passed += (first.passed[0] || second.passed[0]) as u64;
+        c.passed_whole += (first.passed[1] || second.passed[1]) as u64;
         let unlisted = |i: &usize| self.channels[*i].read && matches!(self.channels[*i].carries, Carries::Anything);
         let differ = |i: &usize| (0..self.total()).any(|k| !alike(first.heard[*i][k], second.heard[*i][k]));
         let differing: Vec<usize> = (0..self.channels.len()).filter(unlisted).filter(differ).collect();

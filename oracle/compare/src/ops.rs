@@ -36,19 +36,22 @@ impl Gen {
         Setting { id, values: self.wild.gains(&mut self.r, n), ramp: self.ramp() }
     }
 
-    /// An input block for the Patches of a layout: parts that overlap, are short, long or missing, entries for one channel twice, and now and
-    /// then as many entries as there may be.
+    /// An input block for the Patches of a layout: parts that overlap, are short, long or missing, stand-ins behind them, other orders, and now
+    /// and then as many entries as there may be.
     pub fn input_block(&mut self, l: &Layout) -> Input {
-        let total = self.block * self.r.pick(&[1, 1, 2, 3]) + self.r.pick(&[0, 0, 1, 7]);
+        let total = self.block * self.r.pick(&[1, 2, 2, 3]) + self.r.pick(&[0, 0, 1, 7]);
         let samples = (0..total).map(|_| self.wild.sample(&mut self.r)).collect();
+        let patch = |s: &Step| if let Step::Patch { input, channel, .. } = *s { Some([input, channel]) } else { None };
+        let read: Vec<[u32; 2]> = l.steps.iter().filter_map(patch).collect();
         let mut entries: Vec<[u32; 4]> = Vec::new();
-        for s in &l.steps {
-            if let Step::Patch { input, channel, .. } = *s {
-                for _ in 0..self.r.pick(&[0, 1, 1, 1, 1, 1, 2]) {
-                    let (start, len) = self.part(total);
-                    entries.push([input, channel, start as u32, len as u32]);
-                }
+        for channel in &read {
+            for _ in 0..self.r.pick(&[0, 1, 1, 1, 1, 1, 2]) {
+                let len = self.len(total);
+                entries.push(self.entry(*channel, len, total));
             }
+        }
+        if !read.is_empty() && self.r.percent(50) {
+            (0..self.r.pick(&[1, 1, 2, 4])).for_each(|_| self.stand_ins(&mut entries, &read, total));
         }
         if self.r.percent(30) {
             entries.push([self.r.below(256) as u32, 77, self.r.below(total + 1) as u32, 0]);
@@ -56,25 +59,71 @@ impl Gen {
                 entries.swap(i, self.r.below(i + 1));
             }
         }
-        if self.r.percent(2) {
-            entries.resize(MAX_ENTRIES, [u32::MAX, u32::MAX, total as u32, 0]);
+        match self.r.below(100) {
+            0 | 1 => entries.resize(MAX_ENTRIES, [u32::MAX, u32::MAX, total as u32, 0]),
+            2 if !read.is_empty() => self.crowd(&mut entries, &read, total),
+            _ => {}
         }
         entries.truncate(MAX_ENTRIES);
         Input { directory: entries.concat(), samples }
     }
 
-    fn part(&mut self, total: usize) -> (usize, usize) {
+    /// Entries for one channel, one to three behind those that it has, each as likely whole as short or empty; entries for another channel of its
+    /// input, and for another input, between them.
+    fn stand_ins(&mut self, entries: &mut Vec<[u32; 4]>, read: &[[u32; 2]], total: usize) {
+        let [input, channel] = self.r.pick(read);
+        let (b, any) = (self.block, self.channel());
+        for _ in 0..self.r.pick(&[1, 1, 2, 3]) {
+            for other in [[input, channel ^ 1], [input, any], [input ^ 1, channel]] {
+                if other != [input, channel] && self.r.percent(20) {
+                    entries.push(self.entry(other, b, total));
+                }
+            }
+            let short = self.r.below(b);
+            let len = self.r.pick(&[b, b, b, b - 1, short, 0]);
+            entries.push(self.entry([input, channel], len, total));
+        }
+    }
+
+    /// As many entries as there may be, all of them for one channel, or all but those that there are.
+    fn crowd(&mut self, entries: &mut Vec<[u32; 4]>, read: &[[u32; 2]], total: usize) {
+        let channel = self.r.pick(read);
+        if self.r.percent(50) {
+            entries.clear();
+        }
+        while entries.len() < MAX_ENTRIES {
+            let len = self.len(total);
+            entries.push(self.entry(channel, len, total));
+        }
+        entries.rotate_left(self.r.below(MAX_ENTRIES));
+    }
+
+    /// An entry with a part of this length, or of all samples where there are fewer.
+    fn entry(&mut self, [input, channel]: [u32; 2], len: usize, total: usize) -> [u32; 4] {
+        let len = len.min(total);
+        [input, channel, self.r.below(total - len + 1) as u32, len as u32]
+    }
+
+    fn len(&mut self, total: usize) -> usize {
         let b = self.block;
-        let len = match self.r.below(20) {
+        match self.r.below(20) {
             0 => b - 1,
             1 => 0,
             2 => self.r.below(total + 1),
             3 | 4 => total,
             5 => b + 1,
             _ => b,
-        };
-        let len = len.min(total);
-        (self.r.below(total - len + 1), len)
+        }
+    }
+
+    /// A channel to look up: that of an entry, or now and then one entry's input and another's channel.
+    pub fn asked(&mut self, input: &Input) -> [u32; 2] {
+        let entries: Vec<&[u32]> = input.directory.chunks(4).collect();
+        if entries.is_empty() {
+            return [0, 0];
+        }
+        let (one, other) = (self.r.pick(&entries), self.r.pick(&entries));
+        [one[0], self.r.pick(&[one, one, one, other])[1]]
     }
 
     /// Pairs (new, old), some of them out of range.

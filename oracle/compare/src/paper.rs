@@ -158,9 +158,9 @@ pub fn bad_directory(directory: &[u32], samples: usize) -> bool {
     directory.len() % 4 != 0 || directory.len() > 4 * MAX_ENTRIES || directory.chunks(4).any(past)
 }
 
-/// A channel's part of the samples, by the first entry for it.
+/// A channel's part of the samples, by the last entry for it.
 pub fn lookup<'a>(directory: &[u32], samples: &'a [f32], input: u32, channel: u32) -> &'a [f32] {
-    let entry = directory.chunks_exact(4).find(|e| e[0] == input && e[1] == channel);
+    let entry = directory.chunks_exact(4).rfind(|e| e[0] == input && e[1] == channel);
     entry.map_or(&[], |e| &samples[e[2] as usize..][..e[3] as usize])
 }
 

@@ -5,8 +5,8 @@ use crate::lists::Wrote;
 use crate::plan::{Areas, Layout, Step, FLOATS, VALUES, WORDS};
 use crate::signals::{Carries, Channel};
 
-/// A gain that no case has.
-pub const ODD_GAIN: f32 = 12345.0;
+/// A gain, and a sample, that no case has.
+pub const ODD_VALUE: f32 = 12345.0;
 
 /// A Patch, and at most one Gain behind it.
 #[derive(Clone, Copy, Debug)]
@@ -47,16 +47,17 @@ pub fn gained(l: &Layout, slots: &[u32]) -> Option<(u32, Way)> {
 /// A node's value as a setting without a ramp would leave it, but written by hand.
 pub fn set_by_hand(a: &mut Areas, way: Way) {
     let Some((node, value)) = way.gain else { return };
-    a.floats[FLOATS * node + value] = ODD_GAIN;
-    a.floats[FLOATS * node + VALUES + value] = ODD_GAIN;
+    a.floats[FLOATS * node + value] = ODD_VALUE;
+    a.floats[FLOATS * node + VALUES + value] = ODD_VALUE;
     a.words[WORDS * node + 2] = 0;
 }
 
-/// A planted call: a setting more, or a refused one that sets all the same.
+/// What is planted at the last run: a setting more, or a refused one that sets all the same, before it; or an entry more in its directory.
 #[derive(Clone, Copy)]
 pub enum Last {
     More(Way),
     Refused(Way),
+    Entry(Way),
 }
 
 /// What is planted in a pair: a way to its slot that the fault must show through.
@@ -79,7 +80,8 @@ impl Planted {
         let unlisted = plain.filter(|_| j.plants(Fault::PairListed));
         let more = gained.filter(|_| j.plants(Fault::PairSetting)).map(Last::More);
         let refused = gained.filter(|_| j.plants(Fault::PairRefused)).map(Last::Refused);
-        Planted { sample, unlisted, last: more.or(refused) }
+        let entry = plain.filter(|_| j.plants(Fault::PairEntry)).map(Last::Entry);
+        Planted { sample, unlisted, last: more.or(refused).or(entry) }
     }
 
     /// The last bit of the last sample of a channel.

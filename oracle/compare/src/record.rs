@@ -1,7 +1,8 @@
 //! `oracle record FILE`: a sample of the reference's answers as a file, small enough to be kept with the port, whose program `replay` runs it.
-//! A case is taken where it reaches something that was not reached often enough yet, so that few cases reach everything on the lists of `branches.rs`
-//! and `recorded_refusals.rs`.
+//! A case is taken where it reaches something that was not reached often enough yet, so that few cases reach everything on the lists of `branches.rs`,
+//! `entries.rs` and `recorded_refusals.rs`.
 use crate::branches::{often, BRANCHES, LIMITS};
+use crate::entries::{LOOKUP, PATCH};
 use crate::layouts::Gen;
 use crate::plan::Layout;
 use crate::recorded::{Case, Held};
@@ -61,8 +62,11 @@ impl Recorder {
         }
     }
 
+    /// Whether a case reaches something that was not reached often enough. One that has what takes much room must be wanted for that.
     fn wanted(&self, c: &Case) -> bool {
-        c.reached.iter().any(|name| self.reached.get(name).copied().unwrap_or(0) < often(name, TIMES))
+        let wanted = |name: &&str| self.reached.get(name).copied().unwrap_or(0) < often(name, TIMES);
+        let mut long = c.reached.iter().filter(|name| often(name, TIMES) < TIMES).peekable();
+        c.reached.iter().any(wanted) && (long.peek().is_none() || long.any(wanted))
     }
 
     /// Takes those of the records whose call has not been refused with their number often enough.
@@ -144,7 +148,8 @@ impl Recorder {
 
     /// What was not reached.
     fn missing(&self) -> Vec<String> {
-        let branches = BRANCHES.iter().chain(LIMITS).filter(|name| !self.reached.contains_key(*name)).map(|name| name.to_string());
+        let names = BRANCHES.iter().chain(LIMITS).chain(&PATCH).chain(&LOOKUP);
+        let branches = names.filter(|name| !self.reached.contains_key(*name)).map(|name| name.to_string());
         let all = recorded_refusals::REFUSALS.iter().flat_map(|(kind, numbers)| numbers.iter().map(move |n| (*kind, *n)));
         let refusals = all.filter(|r| !self.refused.contains_key(r)).map(|(kind, n)| format!("{kind:?} refused {n}"));
         branches.chain(refusals).collect()

@@ -1,5 +1,6 @@
 //! Records of calls whose answers the reference gives: a plan is built, set, run, traced and adopted in it, and each call is written down.
 use crate::branches;
+use crate::entries::{Entries, LOOKUP};
 use crate::layouts::Gen;
 use crate::mixer::{Plan, Status};
 use crate::ops::{Input, NodePoke, Setting};
@@ -219,8 +220,8 @@ impl Case {
 
     /// The channel lookup, for a channel of the directory, and the directory's own test.
     pub fn lookup(&mut self, g: &mut Gen, input: &Input) {
-        let entries: Vec<&[u32]> = input.directory.chunks(4).collect();
-        let asked = if entries.is_empty() { [0, 0] } else { [g.r.pick(&entries)[0], g.r.pick(&entries)[1]] };
+        let asked = g.asked(input);
+        self.reached.extend(Entries::new(input, asked, g.block).names(LOOKUP));
         let part = paper::lookup(&input.directory, &input.samples, asked[0], asked[1]);
         self.accepted(Kind::Lookup, vec![input.directory.clone(), bits(&input.samples), bits(part)], asked.to_vec());
         self.directory(input);

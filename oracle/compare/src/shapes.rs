@@ -55,6 +55,8 @@ counted! {
         several: "several Outputs to the slot",
         listed: "a list that is not empty",
         absent: "a listed channel that is absent",
+        passed: "an entry that must not matter before one that counts, of a listed channel",
+        passed_whole: "a whole one before a short one, of a listed channel that is absent",
         missing: "an unlisted channel that is absent all through one list",
         unlisted: "a Patch of an unlisted input whose samples differ",
         not_finite: "NaN or infinity among these",

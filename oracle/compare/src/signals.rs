@@ -1,7 +1,7 @@
 //! What the inputs carry in the two lists of a pair: a listed one the same samples in both, an unlisted one anything.
 use crate::layouts::Gen;
 use crate::ops::Input;
-use crate::paper;
+use crate::paper::MAX_ENTRIES;
 use crate::plan::{Layout, Step};
 use crate::rng::{Rng, Wild};
 
@@ -93,8 +93,10 @@ impl Gen {
                 }
             }
         }
-        if !input.directory.is_empty() && self.r.percent(20) {
-            self.again(&mut input, block);
+        if !input.directory.is_empty() {
+            let room = MAX_ENTRIES - input.directory.len() / 4 - sure as usize; // a planted entry has a place
+            let more = if self.r.percent(1) { room } else { self.r.pick(&[0, 0, 0, 1, 1, 2, 3, 6]) };
+            (0..more.min(room)).for_each(|_| self.before(&mut input, block));
         }
         input
     }
@@ -131,22 +133,22 @@ impl Gen {
         enter(input, c.input, c.channel, part);
     }
 
-    /// A second entry of a channel, which no lookup comes to.
-    fn again(&mut self, input: &mut Input, block: usize) {
-        let at = 4 * self.r.below(input.directory.len() / 4);
-        let part = self.anything(block, false);
-        let (number, channel) = (input.directory[at], input.directory[at + 1]);
-        enter(input, number, channel, part);
+    /// An entry that must not matter, somewhere before one for the same channel. A part that is whole must not bring back a channel whose last
+    /// entry is short.
+    fn before(&mut self, input: &mut Input, block: usize) {
+        let at = self.r.below(input.directory.len() / 4);
+        let (number, channel) = (input.directory[4 * at], input.directory[4 * at + 1]);
+        let short = self.r.below(block);
+        let len = self.r.pick(&[block, block, block, block + 1, short, 0]);
+        let part = self.anything(len, false);
+        let place = 4 * self.r.below(at + 1);
+        input.directory.splice(place..place, [number, channel, input.samples.len() as u32, part.len() as u32]);
+        input.samples.extend(part);
     }
 }
 
-fn enter(input: &mut Input, number: u32, channel: u32, part: Vec<f32>) {
+/// Appends an entry with a part of its own.
+pub fn enter(input: &mut Input, number: u32, channel: u32, part: Vec<f32>) {
     input.directory.extend([number, channel, input.samples.len() as u32, part.len() as u32]);
     input.samples.extend(part);
-}
-
-/// What a Patch of the channel writes in a run.
-pub fn heard(c: &Channel, input: &Input, block: usize) -> Vec<f32> {
-    let part = paper::lookup(&input.directory, &input.samples, c.input, c.channel);
-    part.get(..block).map_or(vec![0.0; block], <[f32]>::to_vec)
 }

@@ -1,10 +1,11 @@
 //! One plan on both sides. `want` is what the port's areas must be: it starts as they do and follows the reference call by call.
+use crate::entries::{self, Entries};
 use crate::judge::{floats, same, untouched, words, Fault, Found, Judge};
 use crate::layouts::Gen;
 use crate::mixer::{self, CountReply, Status};
 use crate::ops::{Input, NodePoke, Setting};
 use crate::plan::{Areas, Layout, FLOATS, VALUES, WORDS};
-use crate::{rust, traced};
+use crate::{paper, rust, traced};
 use reference::engine::plan::peek;
 
 pub struct Twin {
@@ -83,12 +84,14 @@ impl Twin {
 
     /// One block.
     pub fn run(&mut self, j: &mut Judge, input: &Input, more: usize) -> Found {
-        let mut expected = rust::process(&mut self.rust, &input.directory, &input.samples);
+        let handed = plant_in_directory(j, &self.layout, input);
+        let mut expected = rust::process(&mut self.rust, handed.as_ref().unwrap_or(&input.directory), &input.samples);
         let mut count = expected.len();
         j.counts.calls += 1;
         j.counts.blocks += 1;
         j.counts.samples += count as u64;
         j.counts.shapes.samples(&expected);
+        j.counts.patched.run(&self.layout.steps, input, self.layout.block);
         expected.resize(count + more, 7.5);
         let mut output = vec![7.5; expected.len()];
         let p = &mut self.port;
@@ -128,7 +131,7 @@ impl Twin {
         }
         traced::all(j, &self.port, &lists)?;
         j.counts.calls += 1;
-        let mut clean = crate::paper::clean(&self.want).map_err(|s| format!("document 01 refuses the plan: {s:?}"))?;
+        let mut clean = paper::clean(&self.want).map_err(|s| format!("document 01 refuses the plan: {s:?}"))?;
         if j.plants(Fault::Clean) {
             clean = !clean;
         }
@@ -192,13 +195,13 @@ impl Twin {
 
     /// The channel lookup and the directory's own test, for a channel that a Patch may ask for.
     pub fn lookup(&self, j: &mut Judge, g: &mut Gen, input: &Input) -> Found {
-        let entries: Vec<&[u32]> = input.directory.chunks(4).collect();
-        let asked = if entries.is_empty() { [0, 0] } else { [g.r.pick(&entries)[0], g.r.pick(&entries)[1]] };
-        let found = crate::paper::lookup(&input.directory, &input.samples, asked[0], asked[1]);
+        let asked = g.asked(input);
+        let found = plant_in_lookup(j, input, asked);
         let mut part = vec![7.5; found.len() + 1];
         let reply = mixer::lookup(&input.directory, &input.samples, asked[0], asked[1], &mut part);
         let mut expected = [found, &[7.5]].concat();
         j.counts.calls += 2;
+        j.counts.looked_up.add(&Entries::new(input, asked, self.layout.block));
         if j.plants_if(!found.is_empty(), Fault::Part) {
             expected.pop();
         }
@@ -206,6 +209,30 @@ impl Twin {
         untouched("looked-up part", &expected, &part)?;
         same("directory", &false, &mixer::directory_bad(&input.directory, input.samples.len()))
     }
+}
+
+/// Another directory for the reference, in a run that must show it.
+fn plant_in_directory(j: &mut Judge, l: &Layout, input: &Input) -> Option<Vec<u32>> {
+    let fault = j.fault?;
+    let other = match fault {
+        Fault::FirstEntry => entries::turned(&input.directory),
+        Fault::LongEntry => entries::long_enough(&input.directory, l.block),
+        _ => return None,
+    };
+    j.plants_if(entries::shows(l, input, &other), fault).then_some(other)
+}
+
+/// What a lookup finds; planted, by the first entry where that gives another part.
+fn plant_in_lookup<'a>(j: &mut Judge, input: &'a Input, [number, channel]: [u32; 2]) -> &'a [f32] {
+    let by = |directory: &[u32]| paper::lookup(directory, &input.samples, number, channel);
+    let last = by(&input.directory);
+    if j.fault == Some(Fault::FirstPart) {
+        let first = by(&entries::turned(&input.directory));
+        if j.plants_if(untouched("part", first, last).is_err(), Fault::FirstPart) {
+            return first;
+        }
+    }
+    last
 }
 
 fn plant_in_output(j: &mut Judge, output: &mut [f32]) {
