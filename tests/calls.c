@@ -243,6 +243,7 @@ static void looked_up_last(void)
     mixer_count_reply r = mixer_lookup(again, 8, samples, SAMPLES, 9, 0, part, 2);
     ACCEPTED(r.status);
     CHECK(r.count == 1 && part[0] == samples[2] && part[1] == 7);
+    part[0] = 7;
     r = mixer_lookup(again, 12, samples, SAMPLES, 9, 0, part, 2);
     ACCEPTED(r.status);
     CHECK(r.count == 1 && part[0] == samples[2] && part[1] == 7);

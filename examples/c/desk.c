@@ -108,13 +108,14 @@ static void build(struct desk *d)
     printf("built: %zu buffers, %zu nodes, %zu steps of %zu words\n", d->plan.buffers, d->plan.nodes, d->plan.steps, d->plan.words);
 }
 
-/* One block with the microphone at 1, the band at 0.25 and -0.25 and a stand-in for the microphone at 0.5, into an output area of n samples. */
+/* One block by the first entries of: the microphone at 1, the band at 0.25 and -0.25, a stand-in for the microphone at 0.5. Into an output area of
+ * n samples. */
 static mixer_count_reply run(struct desk *d, float *output, size_t n)
 {
     static const uint32_t directory[] = {MICROPHONE, 0, 0, BLOCK, BAND, 0, BLOCK, BLOCK, BAND, 1, 2 * BLOCK, BLOCK, MICROPHONE, 0, 3 * BLOCK, BLOCK};
     static const float samples[] = {1, 1, 1, 1, 0.25f, 0.25f, 0.25f, 0.25f, -0.25f, -0.25f, -0.25f, -0.25f, 0.5f, 0.5f, 0.5f, 0.5f};
     return mixer_process(d->plan, AREA(d->indices), AREA(d->coefficients), AREA(d->node_floats), AREA(d->node_words), AREA(d->steps),
-                         AREA(d->buffers), directory, 4 * d->entries, AREA(samples), output, n);
+                         AREA(d->buffers), directory, MIXER_ENTRY_WORDS * d->entries, AREA(samples), output, n);
 }
 
 static void block(struct desk *d)

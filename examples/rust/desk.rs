@@ -110,6 +110,9 @@ const STEREO: u32 = 1;
 const NODE_FLOATS: usize = 72;
 const NODE_WORDS: usize = 3;
 
+/// The words of an entry of a directory.
+const ENTRY_WORDS: usize = 4;
+
 const BLOCK: usize = 4;
 const NODES: usize = 3;
 const CHANNELS: usize = 3;
@@ -219,11 +222,11 @@ impl Desk {
         unsafe { mixer_set_param(self.plan, id, &value, 1, ramp, f.as_mut_ptr(), f.len(), w.as_mut_ptr(), w.len()) }.result()
     }
 
-    /// One block with the microphone at 1, the band at 0.25 and -0.25 and a stand-in for the microphone at 0.5.
+    /// One block by the first entries of: the microphone at 1, the band at 0.25 and -0.25, a stand-in for the microphone at 0.5.
     #[rustfmt::skip]
     fn run(&mut self, output: &mut [f32]) -> Result<usize, Refused> {
         let n = BLOCK as u32;
-        let directory = &[MICROPHONE, 0, 0, n, BAND, 0, n, n, BAND, 1, 2 * n, n, MICROPHONE, 0, 3 * n, n][..4 * self.entries];
+        let directory = &[MICROPHONE, 0, 0, n, BAND, 0, n, n, BAND, 1, 2 * n, n, MICROPHONE, 0, 3 * n, n][..ENTRY_WORDS * self.entries];
         let mut samples = [1.0; 4 * BLOCK];
         samples[BLOCK..2 * BLOCK].fill(0.25);
         samples[2 * BLOCK..3 * BLOCK].fill(-0.25);

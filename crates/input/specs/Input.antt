@@ -28,7 +28,8 @@ entryFor directory input channel i = eqb (entryWord directory i 0) input && eqb 
 abbrev pub entryPart : List ℕ → List Float → ℕ → List Float
 entryPart directory samples i = part (entryWord directory i 2) (entryWord directory i 3) samples
 
--- the channel lookup among the first n entries: the part of the samples that the last matching one names, however short, or an empty part
+-- the channel lookup (request C-11; document 01 has the first entry) among the first n entries: the part of the samples that the last matching
+-- one names, however short, or an empty part
 unfoldable pub lookupBelow : List ℕ → List Float → ℕ → ℕ → ℕ → List Float
 lookupBelow directory samples input channel zero = []
 lookupBelow directory samples input channel (suc n) =

@@ -139,7 +139,7 @@ pub fn run_block(
     ensures { λ r. ⌜ state (now (floats .exit)) (now (words .exit)) (now (buffers .exit)) (now (output .exit)) r
         ≡ runSteps (plan .block) (lookup (now (directory .entry)) (now (samples .entry))) (map (resolved plan (now (indices .entry)) (now (coefficients .entry))) (decoded (now (steps .entry)) (plan .steps))) (state (now (floats .entry)) (now (words .entry)) (now (buffers .entry)) (now (output .entry)) 0) ⌝ }
 {
-    // So that a Patch searches from the last entry of its input down; an input without one has no entry below 0.
+    // So that a Patch searches from the last entry of its input down; an input without one keeps 0, below which there is no entry.
     let mut ends = [0; input::ENDS];
     input::search_ends(directory, &mut ends);
     run_steps(

@@ -22,7 +22,7 @@ pub const OUTPUT: usize = CHANNELS * BLOCK;
 // Four seconds at 48,000 samples a second.
 const BLOCKS: usize = 750;
 
-// One block of what the inputs carry, from a sample on. Requires samples that a u32 counts.
+// One block of what the inputs carry, from a sample on, and the stand-in's line behind its first one. Requires samples that a u32 counts.
 pub fn ran(
     from: u32,
     plan: Plan,

@@ -11,6 +11,7 @@ const STEPS: usize = 64;
 const PAIRS: usize = 4;
 /// Where no other are named.
 const INPUTS: Inputs = Inputs(32, 2);
+const FEW: Inputs = Inputs(16, 2);
 const MANY: Inputs = Inputs(256, 2);
 const ONE: Inputs = Inputs(1, 512);
 
@@ -18,8 +19,8 @@ const ONE: Inputs = Inputs(1, 512);
 const PATCHES: [(&str, Inputs, [u32; 2]); 8] = [
     ("entry-1", INPUTS, [0, 0]),
     ("entry-63", INPUTS, [31, 0]),
-    ("of-32 first", Inputs(16, 2), [0, 0]),
-    ("of-32 last", Inputs(16, 2), [15, 1]),
+    ("of-32 first", FEW, [0, 0]),
+    ("of-32 last", FEW, [15, 1]),
     ("of-512 first", MANY, [0, 0]),
     ("of-512 last", MANY, [255, 1]),
     ("one-input-512 first", ONE, [0, 0]),
@@ -95,8 +96,8 @@ pub fn all(t: &mut Table) -> Found {
 /// What every call costs, whatever the block: an empty plan with its directory, a long one too, whole plans of one sample, and their check alone.
 fn fixed(t: &mut Table) -> Found {
     t.head("us a call");
-    for (name, inputs) in [("process no-steps", INPUTS), ("process no-steps of-512", MANY), ("process no-steps one-input-512", ONE)] {
-        t.line(name, 1.0, None, || Desk::with(Draft::new(1).0, inputs, Nodes::Rest))?;
+    for (name, inputs) in [("of-64", INPUTS), ("of-32", FEW), ("of-512", MANY), ("one-input-512", ONE)] {
+        t.line(&format!("process no-steps {name}"), 1.0, None, || Desk::with(Draft::new(1).0, inputs, Nodes::Rest))?;
     }
     for (strips, buses) in [(32, 9), (8, 2)] {
         let layout = || desk(1, strips, buses, Weights::Full, Sends::All);

@@ -36,7 +36,7 @@ impl Gen {
         Setting { id, values: self.wild.gains(&mut self.r, n), ramp: self.ramp() }
     }
 
-    /// An input block for the Patches of a layout: parts that overlap, are short, long or missing, stand-ins behind them, other orders, and now
+    /// An input block for the Patches of a layout: parts that overlap, are short, long or missing, more entries behind them, other orders, and now
     /// and then as many entries as there may be.
     pub fn input_block(&mut self, l: &Layout) -> Input {
         let total = self.block * self.r.pick(&[1, 2, 2, 3]) + self.r.pick(&[0, 0, 1, 7]);
@@ -51,7 +51,7 @@ impl Gen {
             }
         }
         if !read.is_empty() && self.r.percent(50) {
-            (0..self.r.pick(&[1, 1, 2, 4])).for_each(|_| self.stand_ins(&mut entries, &read, total));
+            (0..self.r.pick(&[1, 1, 2, 4])).for_each(|_| self.more_entries(&mut entries, &read, total));
         }
         if self.r.percent(30) {
             entries.push([self.r.below(256) as u32, 77, self.r.below(total + 1) as u32, 0]);
@@ -70,7 +70,7 @@ impl Gen {
 
     /// Entries for one channel, one to three behind those that it has, each as likely whole as short or empty; entries for another channel of its
     /// input, and for another input, between them.
-    fn stand_ins(&mut self, entries: &mut Vec<[u32; 4]>, read: &[[u32; 2]], total: usize) {
+    fn more_entries(&mut self, entries: &mut Vec<[u32; 4]>, read: &[[u32; 2]], total: usize) {
         let [input, channel] = self.r.pick(read);
         let (b, any) = (self.block, self.channel());
         for _ in 0..self.r.pick(&[1, 1, 2, 3]) {

@@ -1,5 +1,6 @@
 //! Document 01's checks, written from its words a second time: the first fault in its order answers. Nothing here is taken from the port's code.
-//! Where the words leave room (whose words end where, which nodes are lent), docs/DECISIONS.md, points 1 to 8, 12, is followed.
+//! Where the words leave room (whose words end where, which nodes are lent), docs/DECISIONS.md, points 1 to 8, 12, is followed. The channel lookup
+//! goes by request C-11.
 use crate::mixer::{Plan, Span, Status};
 use crate::plan::{Areas, Step, FLOATS, VALUES, WORDS};
 

@@ -176,11 +176,11 @@ fn rounds(c: &mut Case, g: &mut Gen, h: &mut Held) {
 
 fn text(r: &Recorder) -> String {
     format!(
-        "Answers of the Rust mixer (commit f575066b19) to calls of the plan engine and the folds, for the program `replay`.
+        "Answers of the Rust mixer (commit f575066b19) to calls of the plan engine and the folds, for `replay`.
 Made by `oracle record FILE` (oracle/README.md): the same bytes each time.
 Plans are those of {} of the seeds 1 to {SEEDS}: where a branch is reached that fewer than {TIMES} cases had reached, and the first at every limit.
-Samples, nodes, buffers, lists, balances, roundings and folds by its laws are the Rust's. What it lacks is the oracle's: lookups, refusals, the
-check and the clean answer by document 01, other folds by a table.
+Samples, nodes, buffers, lists, balances, roundings and folds by its laws are the Rust's. What it lacks is the oracle's: refusals, the check and
+the clean answer by document 01, lookups by request C-11, other folds by a table.
 
 After this text of 1,024 bytes: u32 words, the lowest byte first. Words 0 to 4: 5245504C (hexadecimal), version 2, words in all, records,
 where the records start; before that the areas. A record: kind, length in words, refusal's number and place (0: accepted),

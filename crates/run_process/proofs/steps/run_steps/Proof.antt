@@ -10,11 +10,11 @@ use Rattle.run_process.proofs.steps.run_steps.Statement.{statement}
 use Rattle.run_process.proofs.steps.run_steps.Tie as tie
 
 abbrev Inv-loop : tie.InvT-loop
-Inv-loop plan indices coefficients floats₀ words₀ steps buffers₀ directory starts samples output₀ wrote₀ at₀ i₀ end floats words buffers output wrote at i =
+Inv-loop plan indices coefficients floats₀ words₀ steps buffers₀ directory ends samples output₀ wrote₀ at₀ i₀ end floats words buffers output wrote at i =
     Going plan indices coefficients (lookup directory samples) steps (state floats₀ words₀ buffers₀ output₀ 0) at i (state floats words buffers output wrote)
 
 abbrev μ-loop : tie.MeasureT-loop
-μ-loop plan indices coefficients floats₀ words₀ steps buffers₀ directory starts samples output₀ wrote₀ at₀ i₀ end floats words buffers output wrote at i = plan .steps - i
+μ-loop plan indices coefficients floats₀ words₀ steps buffers₀ directory ends samples output₀ wrote₀ at₀ i₀ end floats words buffers output wrote at i = plan .steps - i
 
 -- what it changes, as it stood at entry, and as it stands at the loop's head
 abbrev st : tie.Start Inv-loop μ-loop → State
