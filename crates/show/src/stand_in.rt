@@ -19,26 +19,37 @@ pub fn directory_at(from: u32, directory: &[u32]) -> &[u32]
     directory
 }
 
-// Its line, behind its first block: it is heard where the narrator's buffer, the first of the plan, has its samples, the last of those lent.
-// Requires the samples of all channels.
+// Behind its first block, whether it is heard in it.
+fn told(from: u32, heard: bool) {
+    settings::line(
+        from as usize,
+        b"a stand-in for the narrator appended to the directory; heard: ",
+    );
+    if heard {
+        text::put(b"yes\n");
+        return;
+    }
+    text::put(b"no\n");
+}
+
+// Its line behind its first block, and one behind each later block in which it is not heard. It is heard where the narrator's buffer, the first
+// of the plan, has its samples, the last of those lent. Requires the samples of all channels.
 pub fn line(from: u32, samples: &[f32], buffers: &[f32])
     requires { ⌜ length (now samples) ≡ 3584 ⌝ }
 {
-    if from != AT {
+    if from < AT {
         return;
     }
     if buffers.len() < BLOCK {
         return;
     }
-    settings::line(
-        from as usize,
-        b"a stand-in for the narrator appended to the directory; heard: ",
-    );
     let played = digest::of_samples(digest::empty(), &samples[inputs::SAMPLES - BLOCK..]);
     let heard = digest::of_samples(digest::empty(), &buffers[0..BLOCK]);
-    if played == heard {
-        text::put(b"yes\n");
+    if from == AT {
+        told(from, played == heard);
         return;
     }
-    text::put(b"no\n");
+    if played != heard {
+        settings::line(from as usize, b"the stand-in is not heard\n");
+    }
 }
