@@ -108,8 +108,8 @@ static void build(struct desk *d)
     printf("built: %zu buffers, %zu nodes, %zu steps of %zu words\n", d->plan.buffers, d->plan.nodes, d->plan.steps, d->plan.words);
 }
 
-/* One block by the first entries of: the microphone at 1, the band at 0.25 and -0.25, a stand-in for the microphone at 0.5. Into an output area of
- * n samples. */
+/* One block into an output area of n samples. Of the directory the first `entries` are lent: the microphone at 1, the band at 0.25 and -0.25, and
+ * last a stand-in for the microphone at 0.5. */
 static mixer_count_reply run(struct desk *d, float *output, size_t n)
 {
     static const uint32_t directory[] = {MICROPHONE, 0, 0, BLOCK, BAND, 0, BLOCK, BLOCK, BAND, 1, 2 * BLOCK, BLOCK, MICROPHONE, 0, 3 * BLOCK, BLOCK};

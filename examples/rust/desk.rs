@@ -222,7 +222,8 @@ impl Desk {
         unsafe { mixer_set_param(self.plan, id, &value, 1, ramp, f.as_mut_ptr(), f.len(), w.as_mut_ptr(), w.len()) }.result()
     }
 
-    /// One block by the first entries of: the microphone at 1, the band at 0.25 and -0.25, a stand-in for the microphone at 0.5.
+    /// One block. Of the directory the first `entries` are lent: the microphone at 1, the band at 0.25 and -0.25, and last a stand-in for the
+    /// microphone at 0.5.
     #[rustfmt::skip]
     fn run(&mut self, output: &mut [f32]) -> Result<usize, Refused> {
         let n = BLOCK as u32;

@@ -1,7 +1,7 @@
 -- The channel lookup: it hands back the part of the last entry that matches, or nothing; and a directory that is not bad names no part past
 -- the samples. Assumes nothing.
 use mathlib.Core.Path.{_≡_, refl, sym, ap, _∙_}
-use mathlib.Core.Bool.{Bool, true, false, _||_, or-true, or-false}
+use mathlib.Core.Bool.{Bool, true, false, _&&_, _||_, or-true, or-false}
 use mathlib.Core.List.{List, [], _∷_}
 use mathlib.Core.Logic.{⊎-elim}
 use Prim.Native.Nat.{ℕ, zero, suc, _+_, _-_, _*_, _%_, _≤_, _<_}
@@ -9,7 +9,7 @@ use native.Mathlib.Omega.{arith}
 use native.Mathlib.Nat.{add-zero, le-of-suc-le-suc, eq-or-lt-of-le}
 use lib.ListN.{length, getD, drop, length-drop}
 use lib.Seq.{take-all, take-nil}
-use lib.Dec.{ltb}
+use lib.Dec.{ltb, eqb}
 use lib.Ieee.{Float}
 use borrow.Author.Tests.{ltb-false, eqb-true, not-false}
 use Rattle.lists.specs.Parts.{part}
@@ -36,6 +36,11 @@ module _ (xs : List Float) (start len : ℕ) where
 -- the first word of an entry stands at the entry's own place
 pub first-word : (directory : List ℕ) (i : ℕ) → entryWord directory i 0 ≡ getD directory (i * entryWords) 0
 first-word directory i = ap (λ (k : ℕ). getD directory k 0) (add-zero (i * entryWords))
+
+-- an entry's test as the code has it
+pub entry-is : (directory : List ℕ) (input channel i : ℕ)
+    → (eqb (getD directory (i * entryWords) 0) input && eqb (entryWord directory i 1) channel) ≡ entryFor directory input channel i
+entry-is directory input channel i = ap (λ (w : ℕ). eqb w input && eqb (entryWord directory i 1) channel) (sym (first-word directory i))
 
 module _ (directory : List ℕ) (samples : List Float) (input channel : ℕ) where
   -- ---- the lookup, turn by turn, over n entries of which i is the last

@@ -52,7 +52,7 @@ fn entry_for(directory: &[u32], i: usize, input: u32, channel: u32) -> bool
     ensures { λ r. ⌜ r ≡ entryFor (now (directory .entry)) input channel i ⌝ }
 {
     let at = i * ENTRY_WORDS;
-    (directory[at + 0] == input) & (directory[at + 1] == channel)
+    (directory[at] == input) & (directory[at + 1] == channel)
 }
 
 // The part that entry i names. Requires that there is such an entry.
