@@ -66,7 +66,10 @@ enum mixer_number {
     /* to the reader of lists and folds */
     MIXER_NO_SLOT = 15,     /* a slot above the highest that an Output names */
     MIXER_NO_FORMAT = 16,   /* a format above 6 */
-    MIXER_OUT_OF_RANGE = 17 /* a fold gain not from +0 to 16, a balance that is not finite, a width not from -2 to 2 */
+    MIXER_OUT_OF_RANGE = 17, /* a fold gain not from +0 to 16, a balance that is not finite, a width not from -2 to 2 */
+
+    /* to the layout writer, of an insert */
+    MIXER_BAD_RETURN = 18 /* a return input or channel of 0, or a last channel above 4,294,967,295 */
 };
 
 /* The number, and the step, from 1, that the plan check was at; the place is 0 in every other refusal. Both are 0 where the call was accepted. */
@@ -180,6 +183,49 @@ mixer_node_reply mixer_node(mixer_plan plan, uint32_t id, const float *values, s
 
 /* The step whose record stands at the front of `record`; words past it are ignored. Refused: 5, 2, 3, 7. */
 mixer_plan_reply mixer_step(mixer_plan plan, const uint32_t *record, size_t record_len, uint32_t *steps, size_t steps_len);
+
+/* The ids of an insert's nodes, in the order in which the nodes are made: the nodes' numbers are the plan's count of nodes and those after it. Without
+ * a return the send's alone is used. */
+typedef struct {
+    uint32_t send;
+    uint32_t ret;
+    uint32_t dry;
+    uint32_t wet;
+    uint32_t dryin;
+    uint32_t wetin;
+} mixer_insert_ids;
+
+/* What comes back to an insert: an input and its first channel, both counted from 1, so that 1 and 1 are input 0 and channel 0 of a directory, at a
+ * linear gain. At bypass the dry signal is heard in its place. */
+typedef struct {
+    uint32_t input;
+    uint32_t channel;
+    float gain;
+    bool bypass;
+} mixer_insert_return;
+
+/* An insert on the buffers `src`, of a format's channels: they go at a linear gain to the Output of a slot. `ramp` is that of every node of the insert.
+ * Where `returns` is false `back` is not read. */
+typedef struct {
+    uint32_t format;
+    mixer_span src;
+    float gain;
+    uint32_t slot;
+    uint32_t ramp;
+    mixer_insert_ids ids;
+    bool returns;
+    mixer_insert_return back;
+} mixer_insert_point;
+
+/* An insert, all of it or nothing. It makes, of n channels of its format: a Gain to n fresh buffers and their Output; and with a return n fresh buffers
+ * with a Patch each, the return Gain, the dry Gain (from src) and the wet Gain (from the return), a Clear of the insert's output, n * n coefficients of 1
+ * and 0, and two Sends, dry and wet, into the output. Replies with the span that the strip goes on with: src, or with a return the output's. A node of
+ * the insert can be set by its id as any other: dry to 1 and wet to 0 is bypass. The plan check finds as 4 a slot above 31 (at the insert's second step),
+ * a return input above 256 (its third) and, with a return, a src longer than n (its step n + 7). Refused: 16; with a return 18; 4, a src past the index
+ * list as the plan counts it; then for the whole insert 5, 2, 8 (an id that another node or another of its own nodes has), 10. */
+mixer_span_reply mixer_insert(mixer_plan plan, mixer_insert_point insert, uint32_t *indices, size_t indices_len, float *coefficients,
+                              size_t coefficients_len, float *node_floats, size_t node_floats_len, uint32_t *node_words,
+                              size_t node_words_len, uint32_t *steps, size_t steps_len);
 
 /* Zeroes the buffers; the plan is ready to run. Refused: 1, 5, 2. What the steps name is the plan check's matter. */
 mixer_plan_reply mixer_finish(mixer_plan plan, float *buffers, size_t buffers_len);

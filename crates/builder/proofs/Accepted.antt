@@ -61,7 +61,7 @@ module _ (l : Limits) (s : BuilderState) where
       )
   call-exactly (step w) = without-id (stepGrowth (recordLength w)) (lentSteps (length (s .steps))) (stepOwn w) refl
 
-  plan-after : (c : BuilderCall) → answer l s c ≡ Accepted → after l s c .plan ≡ grown (s .plan) (growthOf c)
+  pub plan-after : (c : BuilderCall) → answer l s c ≡ Accepted → after l s c .plan ≡ grown (s .plan) (growthOf c)
   plan-after (buffers n) e = plan-accepted (s .plan) (buffersGrowth n) e
   plan-after (coefficients xs) e = plan-accepted (s .plan) (coefficientsGrowth (length xs)) e
   plan-after (node id xs ramp) e = plan-accepted (s .plan) nodeGrowth e
@@ -126,7 +126,7 @@ module _ (l : Limits) (s : BuilderState) where
 -- ---- a list of calls, each by its own limits
 
 -- after any calls, refused ones among them, the plan has grown by what the accepted ones add, and by no more
-pub really-grown : (cs : List Asked) (s : BuilderState) → built s cs .plan ≡ grown (s .plan) (growthOfAll (accepted s cs))
+pub really-grown : (cs : List (Asked BuilderCall)) (s : BuilderState) → built s cs .plan ≡ grown (s .plan) (growthOfAll (accepted s cs))
 really-grown [] s = refl
 really-grown (x ∷ cs) s = go (answer l s c) refl (really-grown cs t)
   where

@@ -10,13 +10,25 @@ pub mod Limits
 pub mod Fits
 -- what a call hands back and leaves, by its answer
 pub mod Outcomes
+-- the promises of a call, as one state
+pub mod States
 -- a refused call changes nothing
 pub mod Refusals
 -- an accepted call changes only what it says
 pub mod Kept
+-- a list of calls in two parts, and what each of its calls keeps
+pub mod Lists
 -- what accepted calls leave, read back, is what was given
 pub mod ReadBack
 -- a sum of two growths, and its tests
 pub mod Sums
 -- what a list of calls adds, and when all of it is accepted
 pub mod Accepted
+-- what a list of calls adds to a draft
+pub mod Given
+-- what the plan check asks of a plan before it goes to the steps
+pub mod Tables
+-- the draft that an accepted plan holds
+pub mod Held
+-- what the plan check says after accepted calls
+pub mod Added

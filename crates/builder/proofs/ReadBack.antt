@@ -188,7 +188,7 @@ call-drafted l s d (coefficients xs) h e = coefficients-drafted l s d h xs e
 call-drafted l s d (node id xs ramp) h e = node-drafted l s d h id xs ramp e
 call-drafted l s d (step w) h e = step-drafted l s d h w e
 
-pub built-drafted : (cs : List Asked) (s : BuilderState) (d : Draft) → Drafted s d → Drafted (built s cs) (drafted d (accepted s cs))
+pub built-drafted : (cs : List (Asked BuilderCall)) (s : BuilderState) (d : Draft) → Drafted s d → Drafted (built s cs) (drafted d (accepted s cs))
 built-drafted [] s d h = h
 built-drafted (x ∷ cs) s d h = go (answer l s c) refl (built-drafted cs t (given d c)) (built-drafted cs t d)
   where
@@ -207,7 +207,7 @@ built-drafted (x ∷ cs) s d h = go (answer l s c) refl (built-drafted cs t (giv
     go (Refused r) e taken left = left (subst (λ (u : BuilderState). Drafted u d) (sym (refused-nothing l s c r e)) h)
 
 -- what `new` leaves holds nothing, in areas of any content and length
-empty-drafted : (s : BuilderState) (block : ℕ) → s .plan ≡ emptyPlan block → Drafted s noDraft
+pub empty-drafted : (s : BuilderState) (block : ℕ) → s .plan ≡ emptyPlan block → Drafted s noDraft
 unfolding nodes
 empty-drafted s block e =
     record {
@@ -226,7 +226,7 @@ empty-drafted s block e =
 
 -- The theorem: after `new` and any list of calls, each by its own limits and refused ones among them, in areas of any content and length, the plan
 -- holds the draft of the accepted calls.
-pub read-back : (block : ℕ) (s : BuilderState) → s .plan ≡ emptyPlan block → (cs : List Asked) → Drafted (built s cs) (drafted noDraft (accepted s cs))
+pub read-back : (block : ℕ) (s : BuilderState) → s .plan ≡ emptyPlan block → (cs : List (Asked BuilderCall)) → Drafted (built s cs) (drafted noDraft (accepted s cs))
 read-back block s e cs = built-drafted cs s noDraft (empty-drafted s block e)
 
 -- so the step words, as a run decodes them, are the steps that were given

@@ -119,7 +119,7 @@ module _ (words : List ℕ) (n : ℕ) (x : Node) (room : (n + 1) * nodeWords ≤
   abbrev stored : List ℕ
   stored = storedWords words n x
 
-  id-before : (i : ℕ) → i < n → idAt stored i ≡ idAt words i
+  pub id-before : (i : ℕ) → i < n → idAt stored i ≡ idAt words i
   id-before i h = rw add-zero at (word-other words n x i 0 (λ z. omega arith) (omega arith))
 
   among-stored : (j : ℕ) → (idAmong stored (n + 1) j ≡ false) ↔ ((j ≡ x .id → ⊥) × (idAmong words n j ≡ false))

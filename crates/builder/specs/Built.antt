@@ -16,6 +16,8 @@ use Rattle.plan.specs.declared.Read.{Read}
 use Rattle.plan.specs.declared.Read.the-variants.{Found, Bad}
 use Rattle.plan.specs.declared.Limits.{Limits}
 use Rattle.plan.specs.Words.{readAt}
+use Rattle.plan.specs.Areas.{Areas, areas}
+use Rattle.plan.specs.Sound.{stepsOf}
 use Rattle.builder.specs.Growth.{buffersGrowth, coefficientsGrowth, nodeGrowth, stepGrowth}
 use Rattle.builder.specs.Calls.{planAfter, buffersAnswer, numbersFrom, buffersIndices, coefficientsAnswer, coefficientsArea, nodeAnswer, nodeFloatsArea, nodeWordsArea, recordLength, stepAnswer, stepArea}
 
@@ -27,11 +29,11 @@ pub data BuilderCall : Type 0 where
   step : List ℕ → BuilderCall
 
 -- a call, and the limits that it is tested by
-pub record Asked : Type 0 where
-  pub call : BuilderCall
+pub record Asked (Call : Type 0) : Type 0 where
+  pub call : Call
   pub limits : Limits
 
-abbrev pub asked : Limits → BuilderCall → Asked
+abbrev pub asked : {Call : Type 0} → Limits → Call → Asked Call
 asked l c = record { call = c; limits = l }
 
 -- the plan, and the areas that these calls are lent
@@ -42,6 +44,14 @@ pub record BuilderState : Type 0 where
   pub floats : List Float
   pub words : List ℕ
   pub steps : List ℕ
+
+abbrev pub builderState : Plan → List ℕ → List Float → List Float → List ℕ → List ℕ → BuilderState
+builderState plan indices weights floats words steps =
+    record { plan = plan; indices = indices; coefficients = weights; floats = floats; words = words; steps = steps }
+
+-- with an area for the buffers, which `finish` is lent: the six areas of the plan
+abbrev pub areasWith : BuilderState → List Float → Areas
+areasWith s area = areas (s .indices) (s .coefficients) (s .floats) (s .words) (s .steps) area
 
 module _ (l : Limits) where
   abbrev pub answer : BuilderState → BuilderCall → Answer
@@ -90,11 +100,11 @@ module _ (l : Limits) where
       }
 
 -- what a list of calls leaves, and those of them that are accepted, without their limits
-abbrev pub built : BuilderState → List Asked → BuilderState
+abbrev pub built : BuilderState → List (Asked BuilderCall) → BuilderState
 built s [] = s
 built s (c ∷ cs) = built (after (c .limits) s (c .call)) cs
 
-abbrev pub accepted : BuilderState → List Asked → List BuilderCall
+abbrev pub accepted : BuilderState → List (Asked BuilderCall) → List BuilderCall
 accepted s [] = []
 accepted s (c ∷ cs) =
     let rest = accepted (after (c .limits) s (c .call)) cs in
@@ -174,6 +184,10 @@ drafted d (c ∷ cs) = drafted (given d c) cs
 pub data Reads (w : List ℕ) : ℕ → List Step → ℕ → Type 0 where
   none : {at : ℕ} → Reads w at [] at
   then : {at next end : ℕ} {s : Step} {ss : List Step} → readAt w at ≡ Found s next → Reads w next ss end → Reads w at (s ∷ ss) end
+
+-- no word that counts lies after the last step: the steps are read one after the other, and end where the words that count do
+abbrev pub NoWordsAfter : BuilderState → Type 0
+NoWordsAfter s = Reads (take (s .plan .words) (s .steps)) 0 (stepsOf (s .plan) (s .steps)) (s .plan .words)
 
 -- A plan and its areas hold a draft: the counts are those of its lists, and what the areas have up to the counts, read back, is the lists.
 pub record Drafted (s : BuilderState) (d : Draft) : Type 0 where

@@ -57,6 +57,10 @@ pub record Lengths : Type 0 where
   pub nodeWords : ℕ
   pub stepWords : ℕ
 
+abbrev pub lengthsOf : (indices coefficients floats words steps : ℕ) → Lengths
+lengthsOf indices coefficients floats words steps =
+    record { indices = indices; coefficients = coefficients; nodeFloats = floats; nodeWords = words; stepWords = steps }
+
 abbrev pub tooShort : ℕ → ℕ → Change → ℕ → Bool
 tooShort length count change each = tested (λ k. shorter length k each) count change
 

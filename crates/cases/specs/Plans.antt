@@ -1,7 +1,7 @@
 -- The plans of document 01's table of cases, each by the builder calls that lay it out, and what is asked of them. Definitions only.
 use Prim.Native.Nat.{ℕ, zero, suc, _*_}
 use mathlib.Core.Path.{_≡_}
-use mathlib.Core.List.{List, [], _∷_, _++_}
+use mathlib.Core.List.{List, [], _∷_, _++_, map}
 use lib.Count.{ones, onesIn}
 use lib.ListN.{length, replicate}
 use lib.Ieee.{Float, add, sub, mul, div, eq, ofInt, ofBits}
@@ -21,6 +21,7 @@ use Rattle.plan.specs.Check.{idAmong, idTwice, outsideBy, shares, stepsTests, c
 use Rattle.plan.specs.PlanRecord.{planWith}
 use Rattle.builder.specs.Calls.{numbersFrom, newAnswer, buffersIndices, coefficientsArea, nodeFloatsArea, nodeWordsArea, stepArea, finishAnswer, finishArea}
 use Rattle.builder.specs.Built.{BuilderCall, buffers, coefficients, node, step}
+use Rattle.insert.specs.Layout.{single}
 use Rattle.trace.specs.Calls.{sourcesAnswer, sourcesArea}
 use Rattle.trace.specs.declared.Sources.{Sources}
 use Rattle.run.specs.Run.{processed}
@@ -37,7 +38,7 @@ abbrev pub lent : Areas
 lent = areas (replicate 4 0) (replicate 1 plusZero) (replicate nodeFloats plusZero) (replicate nodeWords 0) (replicate 19 0) (replicate 6 plusZero)
 
 abbrev pub build : ℕ → List BuilderCall → Build
-build block calls = record { block = block; lent = lent; calls = calls }
+build block calls = record { block = block; lent = lent; calls = map single calls }
 
 -- One input through a Gain or a Matrix of one value, by its map, to slot 0. The index list names buffer i at place i.
 abbrev pub mono : (block map : ℕ) (value : Float) (ramp : ℕ) → Build

@@ -24,6 +24,14 @@ pub channels-le : (f : ℕ) → channels f ≤ 12
 unfolding channels labels
 channels-le f = leb→le (length (getD formats f [])) 12 (every-or short formats tt f [] tt)
 
+-- and at least one
+abbrev some : List ℕ → Bool
+some xs = leb 1 (length xs)
+
+pub channels-least : (f : ℕ) → f < 7 → 1 ≤ channels f
+unfolding channels labels
+channels-least f h = leb→le 1 (length (getD formats f [])) (every-at some formats tt f [] h)
+
 -- each label is below 15
 abbrev known : ℕ → Bool
 known l = ltb l 15

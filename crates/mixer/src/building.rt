@@ -1,5 +1,6 @@
-// The builder calls, of crate `builder_calls`.
+// The builder calls, of crate `builder_calls`, and the insert, of crate `insert_calls`.
 use builder_calls::PlanBuilder;
+use insert::InsertPoint;
 use mixer_replies::BufferReply;
 use mixer_replies::NodeReply;
 use mixer_replies::PlanReply;
@@ -15,6 +16,8 @@ ghost use lib.ListN.{length};
 ghost use Rattle.plan.specs.Limits.{unitLimits};
 ghost use Rattle.builder.specs.Growth.{buffersGrowth, coefficientsGrowth, nodeGrowth, stepGrowth};
 ghost use Rattle.builder.specs.Calls.{planAfter, newAnswer, emptyPlan, buffersAnswer, buffersIndices, buffersSpan, firstBuffers, bufferNumber, coefficientsAnswer, coefficientsArea, coefficientsSpan, nodeAnswer, nodeFloatsArea, nodeWordsArea, nodeNumber, recordLength, stepAnswer, stepArea, finishAnswer, finishArea};
+ghost use Rattle.builder.specs.Built.{builderState};
+ghost use Rattle.insert.specs.Insert.{insertSpan, inserted};
 ghost use Rattle.mixer_replies.specs.Replies.{planReply, spanReply, nodeReply, bufferReply};
 
 #[no_mangle]
@@ -95,6 +98,37 @@ pub extern "C" fn mixer_step(plan: Plan, record: &[u32], steps: &mut [u32]) -> P
     let grown = made.plan;
     let answer = made.answer;
     plan_reply(grown, answer)
+}
+
+#[no_mangle]
+pub extern "C" fn mixer_insert(
+    plan: Plan,
+    insert: InsertPoint,
+    indices: &mut [u32],
+    coefficients: &mut [f32],
+    node_floats: &mut [f32],
+    node_words: &mut [u32],
+    steps: &mut [u32],
+) -> SpanReply
+    ensures reply { λ r. ⌜ r ≡ spanReply (inserted unitLimits (builderState plan (now (indices .entry)) (now (coefficients .entry)) (now («node_floats» .entry)) (now («node_words» .entry)) (now (steps .entry))) insert .plan) (insertSpan unitLimits (builderState plan (now (indices .entry)) (now (coefficients .entry)) (now («node_floats» .entry)) (now («node_words» .entry)) (now (steps .entry))) insert) ⌝ }
+    ensures indices { λ _. ⌜ now (indices .exit) ≡ inserted unitLimits (builderState plan (now (indices .entry)) (now (coefficients .entry)) (now («node_floats» .entry)) (now («node_words» .entry)) (now (steps .entry))) insert .indices ⌝ }
+    ensures coefficients { λ _. ⌜ now (coefficients .exit) ≡ inserted unitLimits (builderState plan (now (indices .entry)) (now (coefficients .entry)) (now («node_floats» .entry)) (now («node_words» .entry)) (now (steps .entry))) insert .coefficients ⌝ }
+    ensures floats { λ _. ⌜ now («node_floats» .exit) ≡ inserted unitLimits (builderState plan (now (indices .entry)) (now (coefficients .entry)) (now («node_floats» .entry)) (now («node_words» .entry)) (now (steps .entry))) insert .floats ⌝ }
+    ensures words { λ _. ⌜ now («node_words» .exit) ≡ inserted unitLimits (builderState plan (now (indices .entry)) (now (coefficients .entry)) (now («node_floats» .entry)) (now («node_words» .entry)) (now (steps .entry))) insert .words ⌝ }
+    ensures steps { λ _. ⌜ now (steps .exit) ≡ inserted unitLimits (builderState plan (now (indices .entry)) (now (coefficients .entry)) (now («node_floats» .entry)) (now («node_words» .entry)) (now (steps .entry))) insert .steps ⌝ }
+{
+    let made = insert_calls::insert(
+        plan,
+        insert,
+        indices,
+        coefficients,
+        node_floats,
+        node_words,
+        steps,
+    );
+    let grown = made.plan;
+    let answer = made.answer;
+    span_reply(grown, answer)
 }
 
 #[no_mangle]

@@ -1,13 +1,13 @@
 -- The tests of a plan as a whole in plain terms: what each says where it does not hold, and the other way. Assumes nothing.
-use mathlib.Core.Path.{_≡_, refl}
-use mathlib.Core.Bool.{false}
+use mathlib.Core.Path.{_≡_, refl, sym}
+use mathlib.Core.Bool.{Bool, true, false}
 use mathlib.Core.List.{List}
 use mathlib.Core.Logic.{_↔_}
-use Prim.Native.Nat.{ℕ, _*_, _≤_, _<_}
-use native.Mathlib.Nat.{mul-one}
-use lib.Dec.{eqb}
+use Prim.Native.Nat.{ℕ, _*_, _/_, _≤_, _<_}
+use native.Mathlib.Nat.{mul-one, div-lt-iff-lt-mul, le-div-iff-mul-le}
+use lib.Dec.{eqb, ltb}
 use lib.ListN.{length}
-use borrow.Author.Tests.{ltb-false, eqb-false, le-ltb, ne-eqb}
+use borrow.Author.Tests.{ltb-true, ltb-false, eqb-false, lt-ltb, le-ltb, ne-eqb}
 use Rattle.lists.proofs.Bools.{or-none}
 use Rattle.lists.proofs.Scans.{Counted, counted-at, counted-none}
 use Rattle.node.specs.Sizes.{nodeFloats, nodeWords}
@@ -48,6 +48,15 @@ limits-none l p = (
 )
 
 -- ---- number 2: the room of all six areas, and of three
+
+-- n / each < count exactly where n < count * each
+pub shorter-each : (n count each : ℕ) → 0 < each → ltb (n / each) count ≡ shorter n count each
+shorter-each n count each h = go (ltb (n / each) count) refl
+  where
+    go : (b : Bool) → ltb (n / each) count ≡ b → b ≡ ltb n (count * each)
+    go true e = sym (lt-ltb n (count * each) (div-lt-iff-lt-mul h .0 (ltb-true (n / each) count e)))
+    go false e = sym (le-ltb n (count * each) (le-div-iff-mul-le h .0 (ltb-false (n / each) count e)))
+
 pub record Room (p : Plan) (a : Areas) : Type 0 where
   pub indices : p .indices ≤ length (a .indices)
   pub coefficients : p .coefficients ≤ length (a .coefficients)

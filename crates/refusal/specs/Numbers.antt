@@ -1,4 +1,4 @@
--- The numbers of document 01's section "Who can be refused, and why", in its order and words. Definitions only.
+-- The numbers of document 01's section "Who can be refused, and why", in its order and words, and of the requests. Definitions only.
 use Prim.Native.Nat.{ℕ}
 
 -- ---- layout writer
@@ -78,3 +78,9 @@ noFormat = 16
 -- a fold gain not from +0 to 16, a balance not finite, a width not from -2 to 2
 abbrev pub outOfRange : ℕ
 outOfRange = 17
+
+-- ---- layout writer, of request C-12
+
+-- with a return, a return input or channel of 0 or a last channel above 4,294,967,295
+abbrev pub badReturn : ℕ
+badReturn = 18

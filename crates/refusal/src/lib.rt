@@ -55,6 +55,9 @@ impl Refusal {
 
     pub const OUT_OF_RANGE: u32 = 17;
 
+    // To the layout writer, of an insert.
+    pub const BAD_RETURN: u32 = 18;
+
     // A refusal of a call that is at no step.
     pub fn of(number: u32) -> Refusal
         ensures { λ r. ⌜ r ≡ refusal number 0 ⌝ }

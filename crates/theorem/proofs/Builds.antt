@@ -2,11 +2,10 @@
 -- two builds of the same accepted calls hold one draft, and every answer about the one is the answer about the other. Assumes nothing.
 use mathlib.Core.Path.{_≡_, refl, sym, _∙_, subst}
 use mathlib.Core.List.{List, [], _∷_, _++_}
-use Prim.Native.Nat.{zero, suc, _*_, _≤_}
+use Prim.Native.Nat.{ℕ, zero, suc, _*_, _≤_}
 use native.Mathlib.Omega.{arith}
 use lib.ListN.{length}
-use Rattle.refusal.specs.declared.Answer.{Answer}
-use Rattle.refusal.specs.declared.Answer.the-variants.{Accepted, Refused}
+use Rattle.refusal.specs.declared.Answer.the-variants.{Accepted}
 use Rattle.refusal.proofs.Laws.{accepted-none}
 use Rattle.node.specs.declared.Node.{Node}
 use Rattle.node.specs.Sizes.{nodeWords}
@@ -16,31 +15,20 @@ use Rattle.node.proofs.Left.{left-new}
 use Rattle.plan.specs.declared.Limits.{Limits}
 use Rattle.builder.specs.Growth.{buffersGrowth, coefficientsGrowth, nodeGrowth, stepGrowth}
 use Rattle.builder.specs.Calls.{newAnswer, newTests, recordLength}
-use Rattle.builder.specs.Built.{BuilderCall, buffers, coefficients, node, step, Asked, BuilderState, answer, after, built, Draft, noDraft, given, drafted, Drafted}
-use Rattle.builder.proofs.Refusals.{refused-nothing}
+use Rattle.builder.specs.Built.{BuilderCall, buffers, coefficients, node, step, BuilderState, answer, after, Draft, noDraft, given, drafted, Drafted}
 use Rattle.builder.proofs.Kept.{accepted-kept}
 use Rattle.builder.proofs.Outcomes.{plan-accepted}
 use Rattle.builder.proofs.Fits.{node-fits}
-use Rattle.builder.proofs.ReadBack.{read-back}
+use Rattle.insert.specs.Wiring.{insertCalls}
+use Rattle.insert.specs.Layout.{LayoutCall, single, insert, counts, layoutDrafted}
+use Rattle.insert.proofs.Wired.{RampIs, insert-ramps}
+use Rattle.insert.proofs.Laid.{layout-keeps, laid-read-back}
 use Rattle.theorem.specs.Builds.{Build, unitCalls, begun, afterCalls, acceptedCalls, NoRampBuilt}
 use Rattle.theorem.proofs.Nodes.{AtRest}
 use Rattle.theorem.proofs.Answers.{LaidOut, SameAnswers, same-answers}
 
--- ---- what each accepted call keeps, a list of calls keeps
-module _ (P : BuilderState → Type 0) (keeps : (l : Limits) (s : BuilderState) (c : BuilderCall) → answer l s c ≡ Accepted → P s → P (after l s c)) where
-  one-keeps : (l : Limits) (s : BuilderState) (c : BuilderCall) → P s → P (after l s c)
-  one-keeps l s c p = go (answer l s c) refl
-    where
-      go : (a : Answer) → answer l s c ≡ a → P (after l s c)
-      go Accepted e = keeps l s c e p
-      go (Refused r) e = subst P (sym (refused-nothing l s c r e)) p
-
-  all-keep : (cs : List Asked) (s : BuilderState) → P s → P (built s cs)
-  all-keep [] s p = p
-  all-keep (c ∷ cs) s p = all-keep cs (after (c .limits) s (c .call)) (one-keeps (c .limits) s (c .call) p)
-
 pub block-kept : (b : Build) → afterCalls b .plan .block ≡ b .block
-block-kept b = all-keep (λ (s : BuilderState). s .plan .block ≡ b .block) (λ l s c e p. accepted-kept l s c e .block ∙ p) (unitCalls (b .calls)) (begun b) refl
+block-kept b = layout-keeps (λ (s : BuilderState). s .plan .block ≡ b .block) (λ l s c e p. accepted-kept l s c e .block ∙ p) (unitCalls (b .calls)) (begun b) refl
 
 abbrev NodeRoom : BuilderState → Type 0
 NodeRoom s = s .plan .nodes * nodeWords ≤ length (s .words)
@@ -55,17 +43,17 @@ room-kept l s (step w) e r = rw (plan-accepted (s .plan) (stepGrowth (recordLeng
 
 -- ---- the draft of a build
 abbrev pub draft : Build → Draft
-draft b = drafted noDraft (acceptedCalls b)
+draft b = layoutDrafted noDraft (acceptedCalls b)
 
 pub is-drafted : (b : Build) → Drafted (afterCalls b) (draft b)
-is-drafted b = read-back (b .block) (begun b) refl (unitCalls (b .calls))
+is-drafted b = laid-read-back (b .block) (begun b) refl (unitCalls (b .calls))
 
 placed : (b : Build) → newAnswer (b .block) ≡ Accepted → LaidOut (afterCalls b) (draft b)
 unfolding newAnswer
 placed b e =
     record {
       drafted = is-drafted b;
-      nodes = all-keep NodeRoom room-kept (unitCalls (b .calls)) (begun b) (omega arith);
+      nodes = layout-keeps NodeRoom room-kept (unitCalls (b .calls)) (begun b) (omega arith);
       block = rw (block-kept b) (accepted-none (newTests (b .block)) Accepted e .0 .0);
     }
 
@@ -77,7 +65,7 @@ snoc-rest [] new r e (suc n) = refl
 snoc-rest (x ∷ ns) new r e zero = r zero
 snoc-rest (x ∷ ns) new r e (suc n) = snoc-rest ns new (λ i. r (suc i)) e n
 
-drafted-rest : (cs : List BuilderCall) (d : Draft) → AtRest (d .nodes) → NoRampBuilt cs → AtRest (drafted d cs .nodes)
+drafted-rest : (cs : List BuilderCall) (d : Draft) → AtRest (d .nodes) → RampIs 0 cs → AtRest (drafted d cs .nodes)
 drafted-rest [] d r f = r
 drafted-rest (buffers n ∷ cs) d r f = drafted-rest cs (given d (buffers n)) r f
 drafted-rest (coefficients xs ∷ cs) d r f = drafted-rest cs (given d (coefficients xs)) r f
@@ -85,16 +73,26 @@ drafted-rest (node id values ramp ∷ cs) d r f =
     drafted-rest cs (given d (node id values ramp)) (snoc-rest (d .nodes) (newNode id values ramp) r (left-new id values ramp ∙ f .0)) (f .1)
 drafted-rest (step w ∷ cs) d r f = drafted-rest cs (given d (step w)) r f
 
+layout-rest : (cs : List LayoutCall) (d : Draft) → AtRest (d .nodes) → NoRampBuilt cs → AtRest (layoutDrafted d cs .nodes)
+layout-rest [] d r f = r
+layout-rest (single (buffers n) ∷ cs) d r f = layout-rest cs (given d (buffers n)) r f
+layout-rest (single (coefficients xs) ∷ cs) d r f = layout-rest cs (given d (coefficients xs)) r f
+layout-rest (single (node id values ramp) ∷ cs) d r f = layout-rest cs (given d (node id values ramp)) (drafted-rest (node id values ramp ∷ []) d r (f .0, tt)) (f .1)
+layout-rest (single (step w) ∷ cs) d r f = layout-rest cs (given d (step w)) r f
+layout-rest (insert i ∷ cs) d r f =
+    let calls = insertCalls (counts d) i in
+    layout-rest cs (drafted d calls) (drafted-rest calls d r (subst (λ (ramp : ℕ). RampIs ramp calls) (f .0) (insert-ramps (counts d) i))) (f .1)
+
 pub built-rest : (b : Build) → NoRampBuilt (acceptedCalls b) → AtRest (nodes (afterCalls b .plan .nodes) (afterCalls b .floats) (afterCalls b .words))
-built-rest b f = rw (is-drafted b .nodes) (drafted-rest (acceptedCalls b) noDraft (λ n. refl) f)
+built-rest b f = rw (is-drafted b .nodes) (layout-rest (acceptedCalls b) noDraft (λ n. refl) f)
 
 -- ---- two builds of the same accepted calls
 module _ (b₁ b₂ : Build) (e : acceptedCalls b₁ ≡ acceptedCalls b₂) where
   -- the draft of the first is that of the second too
   pub drafted-too : Drafted (afterCalls b₂) (draft b₁)
-  drafted-too = subst (λ (cs : List BuilderCall). Drafted (afterCalls b₂) (drafted noDraft cs)) (sym e) (is-drafted b₂)
+  drafted-too = subst (λ (cs : List LayoutCall). Drafted (afterCalls b₂) (layoutDrafted noDraft cs)) (sym e) (is-drafted b₂)
 
   pub builds-answer : newAnswer (b₁ .block) ≡ Accepted → newAnswer (b₂ .block) ≡ Accepted → SameAnswers (afterCalls b₁) (afterCalls b₂)
   builds-answer new₁ new₂ =
       same-answers (afterCalls b₁) (afterCalls b₂) (draft b₁) (placed b₁ new₁)
-      (subst (λ (cs : List BuilderCall). LaidOut (afterCalls b₂) (drafted noDraft cs)) (sym e) (placed b₂ new₂))
+      (subst (λ (cs : List LayoutCall). LaidOut (afterCalls b₂) (layoutDrafted noDraft cs)) (sym e) (placed b₂ new₂))

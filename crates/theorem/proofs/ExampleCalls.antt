@@ -12,21 +12,21 @@ use Rattle.builder.specs.Built.{buffers, node}
 use Rattle.theorem.specs.Builds.{Build, Finished, acceptedCalls}
 use Rattle.theorem.specs.Journal.{total}
 use Rattle.theorem.specs.Statement.{Lists, a, b, firstJournal, secondJournal, ListedCarryEqual, ChannelOf, SameOutput}
-use Rattle.theorem.proofs.ExampleParts.{definitions, one, two, one-two, sampleAt, lentFor, patchStep, gainStep, clearStep, outputStep, feed, BuiltBy, itself, someChannelFrom, none-listed, one-listed}
+use Rattle.theorem.proofs.ExampleParts.{definitions, one, two, one-two, sampleAt, lentFor, singles, patchStep, gainStep, clearStep, outputStep, feed, BuiltBy, itself, someChannelFrom, none-listed, one-listed}
 use Rattle.theorem.proofs.ExamplePremises.{CleanPlan, Alike, NoRamps, same-blocks}
 
 -- ---- "built twice by the same builder calls": else the second plan may do something else
 
 -- input 0 as it is, and twice as loud
 abbrev plain : Build
-plain = record { block = 1; lent = lentFor 1 0 0 8 1; calls = buffers 1 ∷ patchStep 0 0 0 ∷ outputStep 0 1 0 ∷ [] }
+plain = record { block = 1; lent = lentFor 1 0 0 8 1; calls = singles (buffers 1 ∷ patchStep 0 0 0 ∷ outputStep 0 1 0 ∷ []) }
 
 abbrev doubled : Build
 doubled =
     record {
       block = 1;
       lent = lentFor 2 0 1 14 2;
-      calls = buffers 2 ∷ node 7 (two ∷ []) 0 ∷ patchStep 0 0 0 ∷ gainStep 0 0 1 1 1 ∷ outputStep 1 1 0 ∷ [];
+      calls = singles (buffers 2 ∷ node 7 (two ∷ []) 0 ∷ patchStep 0 0 0 ∷ gainStep 0 0 1 1 1 ∷ outputStep 1 1 0 ∷ []);
     }
 
 plain-built : BuiltBy plain (plain .calls)
@@ -67,7 +67,7 @@ same-calls-needed claim =
 
 -- an Output of a buffer that is cleared, so that no input is listed; run once, and not at all
 abbrev quiet : Build
-quiet = record { block = 1; lent = lentFor 1 0 0 7 1; calls = buffers 1 ∷ clearStep 0 1 ∷ outputStep 0 1 0 ∷ [] }
+quiet = record { block = 1; lent = lentFor 1 0 0 7 1; calls = singles (buffers 1 ∷ clearStep 0 1 ∷ outputStep 0 1 0 ∷ []) }
 
 quiet-built : BuiltBy quiet (quiet .calls)
 unfolding definitions

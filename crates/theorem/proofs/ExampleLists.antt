@@ -18,7 +18,7 @@ use Rattle.run.specs.Calls as calls
 use Rattle.theorem.specs.Builds.{Build, NoRampBuilt}
 use Rattle.theorem.specs.Journal.{Entry, setting, ran, total, settingsFrom, written, NoRampSet}
 use Rattle.theorem.specs.Statement.{Lists, firstJournal, secondJournal, CarriesEqual, Given, ListedCarryEqual, ChannelOf}
-use Rattle.theorem.proofs.ExampleParts.{definitions, one, two, three, four, six, eight, twentyFour, thirtyTwo, lentFor, patchStep, gainStep, matrixStep, clearStep, sendStep, outputStep, BuiltBy, Journals, someChannelFrom, Carries, carries-of, one-listed}
+use Rattle.theorem.proofs.ExampleParts.{definitions, one, two, three, four, six, eight, twentyFour, thirtyTwo, lentFor, singles, patchStep, gainStep, matrixStep, clearStep, sendStep, outputStep, BuiltBy, Journals, someChannelFrom, Carries, carries-of, one-listed}
 
 -- ---- the plan: the two channels of input 0 are added (buffer 2), scaled (buffer 3) and sent with weight 2 (buffer 4), and the last two buffers
 -- are written to slot 0; input 3 is written to slot 1
@@ -41,7 +41,7 @@ layout =
 
 -- refused: buffers over the limit (5), a record without its fields (3)
 abbrev first : Build
-first = record { block = 1; lent = lentFor 6 1 2 43 6; calls = buffers 257 ∷ tables ++ step (7 ∷ 0 ∷ []) ∷ layout }
+first = record { block = 1; lent = lentFor 6 1 2 43 6; calls = singles (buffers 257 ∷ tables ++ step (7 ∷ 0 ∷ []) ∷ layout) }
 
 -- refused: more coefficients than the area has places for (2), an id that is taken (8), a map that is not named (3)
 abbrev second : Build
@@ -49,7 +49,7 @@ second =
     record {
       block = 2;
       lent = lentFor 7 2 3 50 13;
-      calls = tables ++ coefficients (one ∷ one ∷ []) ∷ node 7 (two ∷ []) 5 ∷ layout ++ step (5 ∷ 0 ∷ 0 ∷ []) ∷ [];
+      calls = singles (tables ++ coefficients (one ∷ one ∷ []) ∷ node 7 (two ∷ []) 5 ∷ layout ++ step (5 ∷ 0 ∷ 0 ∷ []) ∷ []);
     }
 
 -- refused: an id that is unknown (9), a directory that is not in fours (12), a ramp too long (10); in the last run but one an entry for channel 0 of
@@ -82,11 +82,11 @@ lists = record { first = first; second = second; firstCalls = firstCalls; second
 
 -- ---- what they come to: 5 calls of 8 are accepted, and 3 of 6
 
-first-built : BuiltBy first (tables ++ layout)
+first-built : BuiltBy first (singles (tables ++ layout))
 unfolding definitions
 first-built = record { finished = record { new = refl; finish = refl }; accepted = refl }
 
-second-built : BuiltBy second (tables ++ layout)
+second-built : BuiltBy second (singles (tables ++ layout))
 unfolding definitions
 second-built = record { finished = record { new = refl; finish = refl }; accepted = refl }
 

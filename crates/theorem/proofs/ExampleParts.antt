@@ -4,7 +4,7 @@ use native.Mathlib.Omega.{arith}
 use mathlib.Core.Path.{_≡_, refl, sym, ap, subst, _∙_}
 use mathlib.Core.Bool.{Bool, true, false, _&&_, _||_, false≢true}
 use mathlib.Core.Logic.{_⊎_, inl, ⊎-elim}
-use mathlib.Core.List.{List, [], _∷_}
+use mathlib.Core.List.{List, [], _∷_, map}
 use native.Mathlib.Nat.{le-of-suc-le-suc, eq-or-lt-of-le}
 use borrow.Author.Tests.{ltb-true, ltb-false, leb-false, eqb-true, ne-eqb}
 use lib.Count.{ones, onesIn}
@@ -26,6 +26,7 @@ use Rattle.plan.specs.Areas.{Areas, areas}
 use Rattle.plan.specs.Check.{idAmong, idTwice, outsideBy, shares, stepsTests, checked}
 use Rattle.builder.specs.Calls.{newAnswer, buffersIndices, coefficientsArea, nodeFloatsArea, nodeWordsArea, stepArea, finishArea}
 use Rattle.builder.specs.Built.{BuilderCall, step}
+use Rattle.insert.specs.Layout.{LayoutCall, single}
 use Rattle.input.specs.Input.{entryWord, entryFor, entries}
 use Rattle.input.proofs.Input.{lookup-absent}
 use Rattle.trace.specs.Sources.{sourceList}
@@ -82,6 +83,10 @@ abbrev pub lentFor : ℕ → ℕ → ℕ → ℕ → ℕ → Areas
 lentFor indices coefficients nodes steps buffers =
     areas (replicate indices 9) (replicate coefficients nan) (replicate (nodes * nodeFloats) nan) (replicate (nodes * nodeWords) 9) (replicate steps 9)
     (replicate buffers nan)
+
+-- ---- the calls of a build without inserts
+abbrev pub singles : List BuilderCall → List LayoutCall
+singles = map single
 
 -- ---- the builder's `step` for each kind; a span is its start and its length
 
@@ -153,6 +158,16 @@ below : (P : ℕ → Type 0) (m : ℕ) → Below m P → (c : ℕ) → c < m →
 below P zero all c h = absurd (omega arith)
 below P (suc m) all c h = ⊎-elim (λ e. subst P (sym e) (all .0)) (λ p. below P m (all .1) c p) (eq-or-lt-of-le (le-of-suc-le-suc h))
 
+-- for every input of a list
+abbrev pub Each : List ℕ → (ℕ → Type 0) → Type 0
+Each [] P = Unit {0}
+Each (i ∷ is) P = P i × Each is P
+
+each : (P : ℕ → Type 0) (is : List ℕ) → Each is P → (k : ℕ) → has is k ≡ true → P k
+unfolding has
+each P [] all k h = absurd (false≢true h)
+each P (i ∷ is) all k h = ⊎-elim (λ t. subst P (eqb-true i k t) (all .0)) (λ t. each P is (all .1) k t) (or-some (eqb i k) (has is k) h)
+
 -- no input is listed
 pub none-listed : (l : Lists) (s : ℕ) → listBehind l s ≡ [] → ListedCarryEqual l s
 unfolding has
@@ -161,7 +176,7 @@ none-listed l s e i c h = absurd (false≢true (ap (λ (list : List ℕ). has li
 -- ---- from what the builds and the journals were computed to be
 
 -- a build that is finished, and its accepted calls
-pub record BuiltBy (build : Build) (calls : List BuilderCall) : Type 0 where
+pub record BuiltBy (build : Build) (calls : List LayoutCall) : Type 0 where
   pub finished : Finished build
   pub accepted : acceptedCalls build ≡ calls
 
@@ -182,14 +197,16 @@ module _ (l : Lists) {es fs : List Entry} (j : Journals l es fs) where
   pub carries-of : (i c : ℕ) → CarriesEqual l i c → Carries i c
   carries-of i c e = rw (j .first, j .second) at e
 
-  -- one input is listed, and of its channels those from m on are nowhere in the directories
+  -- of the channels of the listed inputs, those from m on are nowhere in the directories
+  pub all-listed : (s m : ℕ) (is : List ℕ) → listBehind l s ≡ is → 0 < a l → 0 < b l → someChannelFrom m es ≡ false → someChannelFrom m fs ≡ false
+      → Each is (λ i. Below m (Carries i)) → ListedCarryEqual l s
+  all-listed s m is e p q first second all k c h = rw (j .first, j .second) (carries (ltb c m) refl)
+    where
+      carries : (r : Bool) → ltb c m ≡ r → Carries k c
+      carries true t = below (Carries k) m (each (λ i. Below m (Carries i)) is all k (ap (λ (list : List ℕ). has list k) (sym e) ∙ h)) c (ltb-true c m t)
+      carries false t = let from = ltb-false c m t in inl (absent-from m k c from (a l) p es first, absent-from m k c from (b l) q fs second)
+
+  -- so where one input is listed
   pub one-listed : (s i m : ℕ) → listBehind l s ≡ i ∷ [] → 0 < a l → 0 < b l → someChannelFrom m es ≡ false → someChannelFrom m fs ≡ false
       → Below m (Carries i) → ListedCarryEqual l s
-  unfolding has
-  one-listed s i m e p q first second all k c h =
-      ⊎-elim (λ t. subst (λ (n : ℕ). CarriesEqual l n c) (eqb-true i k t) (rw (j .first, j .second) (carries (ltb c m) refl)))
-      (λ t. absurd (false≢true t)) (or-some (eqb i k) false (ap (λ (list : List ℕ). has list k) (sym e) ∙ h))
-    where
-      carries : (r : Bool) → ltb c m ≡ r → Carries i c
-      carries true t = below (Carries i) m all c (ltb-true c m t)
-      carries false t = let from = ltb-false c m t in inl (absent-from m i c from (a l) p es first, absent-from m i c from (b l) q fs second)
+  one-listed s i m e p q first second all = all-listed s m (i ∷ []) e p q first second (all, tt)

@@ -7,15 +7,15 @@ use mathlib.Core.Logic.{inr}
 use mathlib.Core.List.{List, [], _∷_}
 use Rattle.mix.specs.Samples.{silence}
 use Rattle.plan.specs.Resolved.{patch, gain}
-use Rattle.builder.specs.Built as builder
 use Rattle.builder.specs.Built.{buffers, node}
+use Rattle.insert.specs.Layout.{LayoutCall}
 use Rattle.trace.specs.Calls.{cleanAnswer}
 use Rattle.trace.specs.declared.CleanAnswer.the-variants.{Clean}
 use Rattle.run.specs.Calls.{Call, set}
 use Rattle.theorem.specs.Builds.{Build, Finished, acceptedCalls, fixed, changing, NoRampBuilt}
 use Rattle.theorem.specs.Journal.{total, settingsFrom, NoRampSet}
 use Rattle.theorem.specs.Statement.{Lists, a, b, firstJournal, secondJournal, Given, ListedCarryEqual, ChannelOf, SameOutput}
-use Rattle.theorem.proofs.ExampleParts.{definitions, one, two, three, four, one-two, two-three, sampleAt, lentFor, patchStep, gainStep, outputStep, feed, BuiltBy, itself, someChannelFrom, none-listed, one-listed}
+use Rattle.theorem.proofs.ExampleParts.{definitions, one, two, three, four, one-two, two-three, sampleAt, lentFor, singles, patchStep, gainStep, outputStep, feed, BuiltBy, itself, someChannelFrom, none-listed, one-listed}
 
 -- ---- the premises one by one; together they are `Given`
 
@@ -25,7 +25,7 @@ pub record Common (l : Lists) : Type 0 where
   pub same-calls : acceptedCalls (l .first) ≡ acceptedCalls (l .second)
   pub same-total : total (a l) (firstJournal l) ≡ total (b l) (secondJournal l)
 
-pub common-of : (l : Lists) {calls : List builder.BuilderCall} → BuiltBy (l .first) calls → BuiltBy (l .second) calls
+pub common-of : (l : Lists) {calls : List LayoutCall} → BuiltBy (l .first) calls → BuiltBy (l .second) calls
     → total (a l) (firstJournal l) ≡ total (b l) (secondJournal l) → Common l
 common-of l first second e =
     record {
@@ -64,7 +64,7 @@ same-blocks l e differ = absurd (differ e)
 
 -- an Output of buffer 0, and only then a Patch of input 3 to it
 abbrev late : Build
-late = record { block = 1; lent = lentFor 1 0 0 8 1; calls = buffers 1 ∷ outputStep 0 1 0 ∷ patchStep 3 0 0 ∷ [] }
+late = record { block = 1; lent = lentFor 1 0 0 8 1; calls = singles (buffers 1 ∷ outputStep 0 1 0 ∷ patchStep 3 0 0 ∷ []) }
 
 late-built : BuiltBy late (late .calls)
 unfolding definitions
@@ -106,7 +106,7 @@ clean-needed claim = late-differs (claim lateLists 0 late-common refl (same-bloc
 
 -- an Output of what a Patch of input 0 wrote
 abbrev direct : Build
-direct = record { block = 1; lent = lentFor 1 0 0 8 1; calls = buffers 1 ∷ patchStep 0 0 0 ∷ outputStep 0 1 0 ∷ [] }
+direct = record { block = 1; lent = lentFor 1 0 0 8 1; calls = singles (buffers 1 ∷ patchStep 0 0 0 ∷ outputStep 0 1 0 ∷ []) }
 
 direct-built : BuiltBy direct (direct .calls)
 unfolding definitions
@@ -141,7 +141,7 @@ scaled =
     record {
       block = 1;
       lent = lentFor 2 0 1 14 2;
-      calls = buffers 2 ∷ node 7 (three ∷ []) 0 ∷ patchStep 0 0 0 ∷ gainStep 0 0 1 1 1 ∷ outputStep 1 1 0 ∷ [];
+      calls = singles (buffers 2 ∷ node 7 (three ∷ []) 0 ∷ patchStep 0 0 0 ∷ gainStep 0 0 1 1 1 ∷ outputStep 1 1 0 ∷ []);
     }
 
 scaled-built : BuiltBy scaled (scaled .calls)
@@ -198,7 +198,7 @@ fading block =
     record {
       block = block;
       lent = lentFor 3 0 1 20 6;
-      calls = buffers 3 ∷ node 7 (four ∷ []) 4 ∷ patchStep 0 0 0 ∷ gainStep 0 0 1 1 1 ∷ gainStep 0 0 1 2 1 ∷ outputStep 1 2 0 ∷ [];
+      calls = singles (buffers 3 ∷ node 7 (four ∷ []) 4 ∷ patchStep 0 0 0 ∷ gainStep 0 0 1 1 1 ∷ gainStep 0 0 1 2 1 ∷ outputStep 1 2 0 ∷ []);
     }
 
 first-fading : BuiltBy (fading 1) (fading 1 .calls)

@@ -39,6 +39,8 @@ pub mod Recorder
 pub mod ExampleParts
 -- two lists that meet every premise
 pub mod ExampleLists
+-- the same with an insert
+pub mod ExampleInsert
 -- premises that are not idle
 pub mod ExamplePremises
 pub mod ExampleCalls

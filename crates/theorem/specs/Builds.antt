@@ -1,4 +1,4 @@
--- A build: `new`, a list of builder calls, and `finish`, in lent areas of any content and length. Definitions only.
+-- A build: `new`, a list of builder calls, inserts among them, and `finish`, in lent areas of any content and length. Definitions only.
 use Prim.Native.Nat.{ℕ}
 use mathlib.Core.Path.{_≡_}
 use mathlib.Core.List.{List, [], _∷_, map}
@@ -7,16 +7,17 @@ use Rattle.refusal.specs.declared.Answer.the-variants.{Accepted}
 use Rattle.plan.specs.Limits.{unitLimits}
 use Rattle.plan.specs.Areas.{Areas}
 use Rattle.builder.specs.Calls.{newAnswer, emptyPlan, finishAnswer, finishArea}
-use Rattle.builder.specs.Built.{BuilderCall, buffers, coefficients, node, step, Asked, asked, BuilderState, built, accepted}
+use Rattle.builder.specs.Built.{buffers, coefficients, node, step, Asked, asked, BuilderState}
+use Rattle.insert.specs.Layout.{LayoutCall, single, insert, laid, acceptedLayout}
 use Rattle.run.specs.Calls.{Fixed, Changing}
 
 pub record Build : Type 0 where
   pub block : ℕ
   pub lent : Areas
-  pub calls : List BuilderCall
+  pub calls : List LayoutCall
 
 -- the calls of a build as they are tested: each by the unit's limits
-abbrev pub unitCalls : List BuilderCall → List Asked
+abbrev pub unitCalls : List LayoutCall → List (Asked LayoutCall)
 unitCalls = map (asked unitLimits)
 
 -- the plan and the areas after `new`, and after the calls, of which a refused one changes nothing
@@ -32,11 +33,11 @@ begun b =
     }
 
 abbrev pub afterCalls : Build → BuilderState
-afterCalls b = built (begun b) (unitCalls (b .calls))
+afterCalls b = laid (begun b) (unitCalls (b .calls))
 
 -- the calls that were accepted, in order
-abbrev pub acceptedCalls : Build → List BuilderCall
-acceptedCalls b = accepted (begun b) (unitCalls (b .calls))
+abbrev pub acceptedCalls : Build → List LayoutCall
+acceptedCalls b = acceptedLayout (begun b) (unitCalls (b .calls))
 
 -- `new` and `finish` are accepted
 pub record Finished (b : Build) : Type 0 where
@@ -51,9 +52,10 @@ abbrev pub changing : Build → Changing
 changing b = record { floats = afterCalls b .floats; words = afterCalls b .words; buffers = finishArea unitLimits (afterCalls b .plan) (b .lent .buffers) }
 
 -- every ramp given to the builder is 0
-abbrev pub NoRampBuilt : List BuilderCall → Type 0
+abbrev pub NoRampBuilt : List LayoutCall → Type 0
 NoRampBuilt [] = Unit {0}
-NoRampBuilt (buffers n ∷ cs) = NoRampBuilt cs
-NoRampBuilt (coefficients xs ∷ cs) = NoRampBuilt cs
-NoRampBuilt (node id values ramp ∷ cs) = (ramp ≡ 0) × NoRampBuilt cs
-NoRampBuilt (step words ∷ cs) = NoRampBuilt cs
+NoRampBuilt (single (buffers n) ∷ cs) = NoRampBuilt cs
+NoRampBuilt (single (coefficients xs) ∷ cs) = NoRampBuilt cs
+NoRampBuilt (single (node id values ramp) ∷ cs) = (ramp ≡ 0) × NoRampBuilt cs
+NoRampBuilt (single (step words) ∷ cs) = NoRampBuilt cs
+NoRampBuilt (insert i ∷ cs) = (i .ramp ≡ 0) × NoRampBuilt cs

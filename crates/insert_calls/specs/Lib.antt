@@ -1,0 +1,2 @@
+-- What the functions below the call cite.
+pub mod Loops
