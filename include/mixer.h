@@ -18,9 +18,9 @@
  * - the thread's floating-point state is the default one: round to nearest, no flush-to-zero, no denormals-are-zero, exceptions masked. With
  *   flush-to-zero on, as audio hosts have it, a sample of 1e-38 times a gain of 0.1 is 0 and not the float with the bits 000ae398; with upward
  *   rounding bits differ; with exceptions unmasked mixer_balance_gains(0.3) can end the program (tests/floats.c);
- * - the thread has stack left for the call: mixer_width_matrix uses at most 24 KB, mixer_output_sources and mixer_all_sources at most 10 KB, every
- *   other call at most 2 KB, the arguments included (tests/stack.c). The library calls memcpy and memset: where the linker looks these up at their
- *   first call, more comes on top once (some 3 KB where it was measured).
+ * - the thread has stack left for the call: mixer_width_matrix uses at most 24 KB, mixer_output_sources and mixer_all_sources at most 10 KB,
+ *   mixer_insert at most 4 KB, every other call at most 2 KB, the arguments included (tests/stack.c). The library calls memcpy and memset: where the
+ *   linker looks these up at their first call, more comes on top once (some 3 KB where it was measured).
  */
 #ifndef MIXER_H
 #define MIXER_H
@@ -196,7 +196,8 @@ typedef struct {
 } mixer_insert_ids;
 
 /* What comes back to an insert: an input and its first channel, both counted from 1, so that 1 and 1 are input 0 and channel 0 of a directory, at a
- * linear gain. At bypass the dry signal is heard in its place. */
+ * linear gain. At bypass the dry signal is heard in its place; the return is still in the sum, at 0, so that an infinity or a NaN that comes back is heard
+ * as a NaN. */
 typedef struct {
     uint32_t input;
     uint32_t channel;
@@ -205,7 +206,7 @@ typedef struct {
 } mixer_insert_return;
 
 /* An insert on the buffers `src`, of a format's channels: they go at a linear gain to the Output of a slot. `ramp` is that of every node of the insert.
- * Where `returns` is false `back` is not read. */
+ * Where `returns` is false `back` and the ids after the send's do not matter. */
 typedef struct {
     uint32_t format;
     mixer_span src;
@@ -217,12 +218,14 @@ typedef struct {
     mixer_insert_return back;
 } mixer_insert_point;
 
-/* An insert, all of it or nothing. It makes, of n channels of its format: a Gain to n fresh buffers and their Output; and with a return n fresh buffers
- * with a Patch each, the return Gain, the dry Gain (from src) and the wet Gain (from the return), a Clear of the insert's output, n * n coefficients of 1
- * and 0, and two Sends, dry and wet, into the output. Replies with the span that the strip goes on with: src, or with a return the output's. A node of
- * the insert can be set by its id as any other: dry to 1 and wet to 0 is bypass. The plan check finds as 4 a slot above 31 (at the insert's second step),
- * a return input above 256 (its third) and, with a return, a src longer than n (its step n + 7). Refused: 16; with a return 18; 4, a src past the index
- * list as the plan counts it; then for the whole insert 5, 2, 8 (an id that another node or another of its own nodes has), 10. */
+/* An insert, all of it or nothing. Of n channels of its format it makes a Gain to n fresh buffers and their Output; with a return also n fresh buffers with
+ * a Patch each, the return Gain, the dry Gain (from src) and the wet Gain (from the return), a Clear of the insert's output, n * n coefficients of 1 and 0,
+ * and two Sends, dry and wet, into the output. That is n buffers and index entries, a node, and 2 steps of 10 words; with a return 6 * n buffers and index
+ * entries, n * n coefficients, 6 nodes, and n + 8 steps of 4 * n + 47 words. Replies with the span that the strip goes on with: src, or with a return the
+ * output's. The nodes can be set by their ids as any other: all n values of dry to 1 and of wet to 0 is bypass. Of a src shorter than n the channels past it
+ * are not written, and the plan is not clean. The plan check finds as 4 a slot above 31 (at the insert's second step), a return input above 256 (its third)
+ * and, with a return, a src longer than n (its step n + 7). Refused: 16; with a return 18; 4, a src past the index list as the plan counts it; then for the
+ * whole insert 5, 2, 8 (an id that another node or another of its own nodes has), 10. */
 mixer_span_reply mixer_insert(mixer_plan plan, mixer_insert_point insert, uint32_t *indices, size_t indices_len, float *coefficients,
                               size_t coefficients_len, float *node_floats, size_t node_floats_len, uint32_t *node_words,
                               size_t node_words_len, uint32_t *steps, size_t steps_len);

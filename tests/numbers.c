@@ -83,6 +83,16 @@ static void steps_at_limits(void)
     REFUSED(check(output, 4), MIXER_OUTSIDE_TABLE, 1);
 }
 
+/* The last channel of a return at the largest number of four bytes, and one above it. */
+static void returns_at_limits(void)
+{
+    mixer_insert_point i = {.returns = true, .ids = {1, 2, 3, 4, 5, 6}, .back = {.input = 1, .channel = UINT32_MAX}};
+    mixer_plan p = mixer_new(1).plan;
+    ACCEPTED(mixer_insert(p, i, AREA(indices), AREA(coefficients), AREA(node_floats), AREA(node_words), AREA(steps)).status);
+    i.format = MIXER_STEREO;
+    REFUSED(mixer_insert(p, i, AREA(indices), AREA(coefficients), AREA(node_floats), AREA(node_words), AREA(steps)).status, MIXER_BAD_RETURN, 0);
+}
+
 static mixer_status run(size_t entry_words)
 {
     return mixer_process(mixer_new(1).plan, NULL, 0, NULL, 0, NULL, 0, NULL, 0, NULL, 0, NULL, 0, directory, entry_words, samples, 1, NULL, 0).status;
@@ -141,6 +151,7 @@ int main(void)
     tables_at_limits();
     nodes_at_limits();
     steps_at_limits();
+    returns_at_limits();
     directories_at_limits();
     labels_of_formats();
     return failures != 0;

@@ -133,6 +133,21 @@ static void job_step(void)
     ACCEPTED(mixer_step(mixer_new(BLOCK).plan, AREA(send), AREA(area)).status);
 }
 
+/* In every format, with a return and without; behind the plan's own nodes, whose ids are looked at, and to areas of the call's own. */
+static void job_insert(void)
+{
+    static uint32_t own_indices[MIXER_MAX_INDICES], own_words[MIXER_MAX_NODES * MIXER_NODE_WORDS], own_steps[2 * WORDS];
+    static float own_coefficients[MIXER_MAX_COEFFICIENTS], own_floats[MIXER_MAX_NODES * MIXER_NODE_FLOATS];
+    mixer_insert_point i = {.src = {.start = 1, .len = 2}, .ramp = 5, .ids = {14, 15, 16, 17, 18, 19}, .back = {.input = 1, .channel = 1}};
+    memcpy(own_words, node_words, sizeof node_words);
+    for (i.format = 0; i.format <= MIXER_SURROUND_714; i.format++) {
+        i.returns = false;
+        ACCEPTED(mixer_insert(plan, i, AREA(own_indices), AREA(own_coefficients), AREA(own_floats), AREA(own_words), AREA(own_steps)).status);
+        i.returns = true;
+        ACCEPTED(mixer_insert(plan, i, AREA(own_indices), AREA(own_coefficients), AREA(own_floats), AREA(own_words), AREA(own_steps)).status);
+    }
+}
+
 static void job_check_plan(void)
 {
     ACCEPTED(mixer_check_plan(plan, AREA(indices), AREA(coefficients), AREA(node_floats), AREA(node_words), AREA(steps), AREA(buffers)));
@@ -244,6 +259,7 @@ static const struct {
     {"coefficients", job_coefficients, 2 * KB},
     {"node", job_node, 2 * KB},
     {"step", job_step, 2 * KB},
+    {"insert", job_insert, 4 * KB},
     {"finish", job_finish, 2 * KB},
     {"check_plan", job_check_plan, 2 * KB},
     {"set_param", job_set_param, 2 * KB},

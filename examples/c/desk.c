@@ -1,11 +1,12 @@
-/* A small layout over the mixer's C interface: a microphone and a stereo band into the hall (slot 0), the microphone alone to the stage (slot 1). */
+/* A small layout over the mixer's C interface: a microphone and a stereo band into the hall (slot 0), the microphone alone to the stage (slot 1).
+ * On its way to the hall the microphone has an insert: it goes to an effects box (slot 2), and what the box sends back can be heard in its place. */
 #include <stdio.h>
 #include <stdlib.h>
 
 #include "mixer.h"
 
-enum { BLOCK = 4, BUFFERS = 7, NODES = 3, CHANNELS = 3, MICROPHONE = 12, BAND = 40, HALL = 0, STAGE = 1 };
-enum { STRIP_LEVEL = 100, BAND_LEVEL = 101, STAGE_LEVEL = 102 };
+enum { BLOCK = 4, BUFFERS = 13, NODES = 9, CHANNELS = 4, MICROPHONE = 12, BAND = 40, BOX = 60, HALL = 0, STAGE = 1, EFFECTS = 2 };
+enum { STRIP_LEVEL = 100, BAND_LEVEL, STAGE_LEVEL, BOX_SEND, BOX_RETURN, BOX_DRY, BOX_WET, BOX_DRYIN, BOX_WETIN };
 
 /* The record of a plan and its areas, and the entries of the directory that it is run with. */
 struct desk {
@@ -15,7 +16,7 @@ struct desk {
     float coefficients[16];
     float node_floats[NODES * MIXER_NODE_FLOATS];
     uint32_t node_words[NODES * MIXER_NODE_WORDS];
-    uint32_t steps[64];
+    uint32_t steps[128];
     float buffers[BUFFERS * BLOCK];
 };
 
@@ -76,10 +77,27 @@ static void send(struct desk *d, uint32_t node, mixer_span src, mixer_span dst, 
     step(d, (const uint32_t[]){MIXER_SEND, node, src.start, src.len, dst.start, dst.len, w.start, w.len}, 8);
 }
 
+/* The insert of a mono strip, bypassed at first; it counts inputs and channels from 1. What it hands back goes on in the strip's place. */
+static mixer_span insert(struct desk *d, mixer_span strip)
+{
+    const mixer_insert_point box = {.format = MIXER_MONO,
+                                    .src = strip,
+                                    .gain = 1.0f,
+                                    .slot = EFFECTS,
+                                    .ids = {BOX_SEND, BOX_RETURN, BOX_DRY, BOX_WET, BOX_DRYIN, BOX_WETIN},
+                                    .returns = true,
+                                    .back = {.input = BOX + 1, .channel = 1, .gain = 2.0f, .bypass = true}};
+    mixer_span_reply r =
+        mixer_insert(d->plan, box, AREA(d->indices), AREA(d->coefficients), AREA(d->node_floats), AREA(d->node_words), AREA(d->steps));
+    expect("insert", r.status);
+    d->plan = r.plan;
+    return r.span;
+}
+
 static void build(struct desk *d)
 {
     mixer_plan_reply r = mixer_new(BLOCK);
-    mixer_span microphone, band, strip, hall, stage;
+    mixer_span microphone, band, strip, hall, stage, inserted;
     uint32_t strip_level, band_level, stage_level;
     expect("new", r.status);
     d->plan = r.plan;
@@ -95,10 +113,11 @@ static void build(struct desk *d)
     patch(d, BAND, 0, band);
     patch(d, BAND, 1, band);
     step(d, (const uint32_t[]){MIXER_GAIN, strip_level, microphone.start, microphone.len, strip.start, strip.len}, 6);
+    inserted = insert(d, strip);
     step(d, (const uint32_t[]){MIXER_CLEAR, hall.start, hall.len}, 3);
     step(d, (const uint32_t[]){MIXER_CLEAR, stage.start, stage.len}, 3);
     send(d, band_level, band, hall, weights(d, MIXER_STEREO, MIXER_STEREO));
-    send(d, band_level, strip, hall, weights(d, MIXER_MONO, MIXER_STEREO));
+    send(d, band_level, inserted, hall, weights(d, MIXER_MONO, MIXER_STEREO));
     send(d, stage_level, strip, stage, weights(d, MIXER_MONO, MIXER_MONO));
     step(d, (const uint32_t[]){MIXER_OUTPUT, hall.start, hall.len, HALL}, 4);
     step(d, (const uint32_t[]){MIXER_OUTPUT, stage.start, stage.len, STAGE}, 4);
@@ -108,19 +127,21 @@ static void build(struct desk *d)
     printf("built: %zu buffers, %zu nodes, %zu steps of %zu words\n", d->plan.buffers, d->plan.nodes, d->plan.steps, d->plan.words);
 }
 
-/* One block into an output area of n samples. Of the directory the first `entries` are lent: the microphone at 1, the band at 0.25 and -0.25, and
- * last a stand-in for the microphone at 0.5. */
+/* One block into an output area of n samples. Of the directory the first `entries` are lent: the microphone at 1, the band at 0.25 and -0.25, the box
+ * at 0.5, and last a stand-in for the microphone at 0.5. */
 static mixer_count_reply run(struct desk *d, float *output, size_t n)
 {
-    static const uint32_t directory[] = {MICROPHONE, 0, 0, BLOCK, BAND, 0, BLOCK, BLOCK, BAND, 1, 2 * BLOCK, BLOCK, MICROPHONE, 0, 3 * BLOCK, BLOCK};
-    static const float samples[] = {1, 1, 1, 1, 0.25f, 0.25f, 0.25f, 0.25f, -0.25f, -0.25f, -0.25f, -0.25f, 0.5f, 0.5f, 0.5f, 0.5f};
+    static const uint32_t directory[] = {MICROPHONE, 0, 0, BLOCK, BAND, 0, BLOCK, BLOCK, BAND, 1, 2 * BLOCK, BLOCK,
+                                         BOX, 0, 3 * BLOCK, BLOCK, MICROPHONE, 0, 4 * BLOCK, BLOCK};
+    static const float samples[] = {1, 1, 1, 1, 0.25f, 0.25f, 0.25f, 0.25f, -0.25f, -0.25f, -0.25f, -0.25f,
+                                    0.5f, 0.5f, 0.5f, 0.5f, 0.5f, 0.5f, 0.5f, 0.5f};
     return mixer_process(d->plan, AREA(d->indices), AREA(d->coefficients), AREA(d->node_floats), AREA(d->node_words), AREA(d->steps),
                          AREA(d->buffers), directory, MIXER_ENTRY_WORDS * d->entries, AREA(samples), output, n);
 }
 
 static void block(struct desk *d)
 {
-    static const char *const names[CHANNELS] = {"hall left", "hall right", "stage"};
+    static const char *const names[CHANNELS] = {"effects", "hall left", "hall right", "stage"};
     float output[CHANNELS * BLOCK];
     mixer_count_reply r = run(d, AREA(output));
     size_t c, k;
@@ -165,7 +186,7 @@ int main(void)
     uint16_t list[MIXER_INPUTS];
     mixer_clean_reply clean;
     build(&d);
-    d.entries = 3;
+    d.entries = 4;
     block(&d);
     printf("strip to 1 over 8 samples\n");
     expect("set_param", level(&d, STRIP_LEVEL, 1.0f, 8));
@@ -173,7 +194,11 @@ int main(void)
     block(&d);
     block(&d);
     printf("a stand-in for the microphone appended to the directory\n");
-    d.entries = 4;
+    d.entries = 5;
+    block(&d);
+    printf("the box heard in place of the microphone, over 4 samples\n");
+    expect("set_param", level(&d, BOX_DRY, 0.0f, 4));
+    expect("set_param", level(&d, BOX_WET, 1.0f, 4));
     block(&d);
     refused("a setting of an unknown node", level(&d, 7, 1.0f, 0));
     refused("an output area that is short", run(&d, output, CHANNELS * BLOCK - 1).status);
@@ -185,6 +210,7 @@ int main(void)
     printf("clean: %s\n", clean.clean ? "yes" : "no");
     cue_list(&d, HALL);
     cue_list(&d, STAGE);
-    refused("slot 2", mixer_output_sources(d.plan, 2, AREA(d.indices), AREA(d.node_words), AREA(d.steps), AREA(list)).status);
+    cue_list(&d, EFFECTS);
+    refused("slot 3", mixer_output_sources(d.plan, 3, AREA(d.indices), AREA(d.node_words), AREA(d.steps), AREA(list)).status);
     return 0;
 }

@@ -21,6 +21,37 @@ struct Span {
 }
 
 #[repr(C)]
+struct InsertIds {
+    send: u32,
+    ret: u32,
+    dry: u32,
+    wet: u32,
+    dryin: u32,
+    wetin: u32,
+}
+
+/// What comes back to an insert, its input and channel counted from 1.
+#[repr(C)]
+struct InsertReturn {
+    input: u32,
+    channel: u32,
+    gain: f32,
+    bypass: bool,
+}
+
+#[repr(C)]
+struct InsertPoint {
+    format: u32,
+    src: Span,
+    gain: f32,
+    slot: u32,
+    ramp: u32,
+    ids: InsertIds,
+    returns: bool,
+    back: InsertReturn,
+}
+
+#[repr(C)]
 struct Status {
     number: u32,
     place: u32,
@@ -83,6 +114,8 @@ extern "C" {
     fn mixer_node(plan: Plan, id: u32, values: *const f32, values_len: usize, ramp: u32,
         floats: *mut f32, floats_len: usize, words: *mut u32, words_len: usize) -> NodeReply;
     fn mixer_step(plan: Plan, record: *const u32, record_len: usize, steps: *mut u32, len: usize) -> PlanReply;
+    fn mixer_insert(plan: Plan, insert: InsertPoint, indices: *mut u32, indices_len: usize, coefficients: *mut f32, coefficients_len: usize,
+        floats: *mut f32, floats_len: usize, words: *mut u32, words_len: usize, steps: *mut u32, steps_len: usize) -> SpanReply;
     fn mixer_finish(plan: Plan, buffers: *mut f32, len: usize) -> PlanReply;
     fn mixer_set_param(plan: Plan, id: u32, values: *const f32, values_len: usize, ramp: u32,
         floats: *mut f32, floats_len: usize, words: *mut u32, words_len: usize) -> Status;
@@ -114,15 +147,19 @@ const NODE_WORDS: usize = 3;
 const ENTRY_WORDS: usize = 4;
 
 const BLOCK: usize = 4;
-const NODES: usize = 3;
-const CHANNELS: usize = 3;
+const BUFFERS: usize = 13;
+const NODES: usize = 9;
+const CHANNELS: usize = 4;
 const MICROPHONE: u32 = 12;
 const BAND: u32 = 40;
+const BOX: u32 = 60;
 const HALL: u32 = 0;
 const STAGE: u32 = 1;
+const EFFECTS: u32 = 2;
 const STRIP_LEVEL: u32 = 100;
 const BAND_LEVEL: u32 = 101;
 const STAGE_LEVEL: u32 = 102;
+const BOX_IDS: InsertIds = InsertIds { send: 103, ret: 104, dry: 105, wet: 106, dryin: 107, wetin: 108 };
 
 /// A refusal, by its number and place.
 #[derive(Debug)]
@@ -145,8 +182,8 @@ struct Desk {
     coefficients: [f32; 16],
     floats: [f32; NODES * NODE_FLOATS],
     words: [u32; NODES * NODE_WORDS],
-    steps: [u32; 64],
-    buffers: [f32; 7 * BLOCK],
+    steps: [u32; 128],
+    buffers: [f32; BUFFERS * BLOCK],
 }
 
 impl Desk {
@@ -155,13 +192,13 @@ impl Desk {
         r.status.result()?;
         Ok(Desk {
             plan: r.plan,
-            entries: 3,
+            entries: 4,
             indices: [0; 16],
             coefficients: [0.0; 16],
             floats: [0.0; NODES * NODE_FLOATS],
             words: [0; NODES * NODE_WORDS],
-            steps: [0; 64],
-            buffers: [0.0; 7 * BLOCK],
+            steps: [0; 128],
+            buffers: [0.0; BUFFERS * BLOCK],
         })
     }
 
@@ -212,6 +249,21 @@ impl Desk {
         self.step(&[SEND, node, src.start, src.len, dst.start, dst.len, w.start, w.len])
     }
 
+    /// The insert of a mono strip, bypassed at first. What it hands back goes on in the strip's place.
+    #[rustfmt::skip]
+    fn insert(&mut self, strip: Span) -> Result<Span, Refused> {
+        let back = InsertReturn { input: BOX + 1, channel: 1, gain: 2.0, bypass: true };
+        let point = InsertPoint { format: MONO, src: strip, gain: 1.0, slot: EFFECTS, ramp: 0, ids: BOX_IDS, returns: true, back };
+        let r = unsafe {
+            mixer_insert(self.plan, point, self.indices.as_mut_ptr(), self.indices.len(),
+                self.coefficients.as_mut_ptr(), self.coefficients.len(), self.floats.as_mut_ptr(), self.floats.len(),
+                self.words.as_mut_ptr(), self.words.len(), self.steps.as_mut_ptr(), self.steps.len())
+        };
+        r.status.result()?;
+        self.plan = r.plan;
+        Ok(r.span)
+    }
+
     fn finish(&mut self) -> Result<(), Refused> {
         let a = &mut self.buffers;
         unsafe { mixer_finish(self.plan, a.as_mut_ptr(), a.len()) }.status.result()
@@ -222,13 +274,14 @@ impl Desk {
         unsafe { mixer_set_param(self.plan, id, &value, 1, ramp, f.as_mut_ptr(), f.len(), w.as_mut_ptr(), w.len()) }.result()
     }
 
-    /// One block. Of the directory the first `entries` are lent: the microphone at 1, the band at 0.25 and -0.25, and last a stand-in for the
-    /// microphone at 0.5.
+    /// One block. Of the directory the first `entries` are lent: the microphone at 1, the band at 0.25 and -0.25, the box at 0.5, and last a
+    /// stand-in for the microphone at 0.5.
     #[rustfmt::skip]
     fn run(&mut self, output: &mut [f32]) -> Result<usize, Refused> {
         let n = BLOCK as u32;
-        let directory = &[MICROPHONE, 0, 0, n, BAND, 0, n, n, BAND, 1, 2 * n, n, MICROPHONE, 0, 3 * n, n][..ENTRY_WORDS * self.entries];
-        let mut samples = [1.0; 4 * BLOCK];
+        let all = [MICROPHONE, 0, 0, n, BAND, 0, n, n, BAND, 1, 2 * n, n, BOX, 0, 3 * n, n, MICROPHONE, 0, 4 * n, n];
+        let directory = &all[..ENTRY_WORDS * self.entries];
+        let mut samples = [1.0; 5 * BLOCK];
         samples[BLOCK..2 * BLOCK].fill(0.25);
         samples[2 * BLOCK..3 * BLOCK].fill(-0.25);
         samples[3 * BLOCK..].fill(0.5);
@@ -276,12 +329,13 @@ fn build() -> Result<Desk, Refused> {
     d.patch(BAND, 0, band)?;
     d.patch(BAND, 1, band)?;
     d.step(&[GAIN, strip_level, microphone.start, microphone.len, strip.start, strip.len])?;
+    let inserted = d.insert(strip)?;
     d.step(&[CLEAR, hall.start, hall.len])?;
     d.step(&[CLEAR, stage.start, stage.len])?;
     let w = d.weights(STEREO, STEREO)?;
     d.send(band_level, band, hall, w)?;
     let w = d.weights(MONO, STEREO)?;
-    d.send(band_level, strip, hall, w)?;
+    d.send(band_level, inserted, hall, w)?;
     let w = d.weights(MONO, MONO)?;
     d.send(stage_level, strip, stage, w)?;
     d.step(&[OUTPUT, hall.start, hall.len, HALL])?;
@@ -295,7 +349,7 @@ fn build() -> Result<Desk, Refused> {
 fn block(d: &mut Desk) -> Result<(), Refused> {
     let mut output = [0.0; CHANNELS * BLOCK];
     println!("block of {} samples", d.run(&mut output)?);
-    for (name, samples) in ["hall left", "hall right", "stage"].iter().zip(output.chunks(BLOCK)) {
+    for (name, samples) in ["effects", "hall left", "hall right", "stage"].iter().zip(output.chunks(BLOCK)) {
         let text: String = samples.iter().map(|x| format!(" {x:.5}")).collect();
         println!("  {name:<10}{text}");
     }
@@ -324,7 +378,11 @@ fn main() -> Result<(), Refused> {
     block(&mut d)?;
     block(&mut d)?;
     println!("a stand-in for the microphone appended to the directory");
-    d.entries = 4;
+    d.entries = 5;
+    block(&mut d)?;
+    println!("the box heard in place of the microphone, over 4 samples");
+    d.level(BOX_IDS.dry, 0.0, 4)?;
+    d.level(BOX_IDS.wet, 1.0, 4)?;
     block(&mut d)?;
     refused("a setting of an unknown node", d.level(7, 1.0, 0));
     refused("an output area that is short", d.run(&mut output[1..]));
@@ -334,6 +392,7 @@ fn main() -> Result<(), Refused> {
     println!("clean: {}", if d.clean()? { "yes" } else { "no" });
     cue_list(&d, HALL)?;
     cue_list(&d, STAGE)?;
-    refused("slot 2", d.sources(2));
+    cue_list(&d, EFFECTS)?;
+    refused("slot 3", d.sources(3));
     Ok(())
 }

@@ -85,7 +85,7 @@ module _ (p : Plan) (i : InsertPoint) where
   weights = span (p .coefficients) (n * n)
 
   -- No weights where the source span is longer than the format's channels: the plan check then finds the dry Send, where the Rust's own steps would pass
-  -- (docs/DECISIONS.md, point 61).
+  -- (docs/DECISIONS.md, point 65).
   abbrev pub dryWeights : Span
   dryWeights = span (p .coefficients) (cond (ltb n (i .src .len)) 0 (n * n))
 

@@ -18,23 +18,28 @@ ghost use Rattle.builder.specs.Built.{coefficients, builderState};
 ghost use Rattle.insert.specs.Wiring.{gainCalls, patches, sendCalls, diagonal, identity, dryGain, wetGain, dryWeights, patchedCalls, switchCalls, outCalls, sumCalls, sentCalls};
 ghost use Rattle.insert_calls.specs.Loops.{wired, SendFits, ReturnFits};
 
+// The gains of a path that is heard, and of one that is not.
+const HEARD: f32 = 1.0;
+
+const NOT_HEARD: f32 = 0.0;
+
 // The gain of the dry and of the wet path.
 fn dry_gain(bypass: bool) -> f32
     ensures { λ r. ⌜ r ≡ dryGain bypass ⌝ }
 {
     if bypass {
-        return 1.0;
+        return HEARD;
     }
-    0.0
+    NOT_HEARD
 }
 
 fn wet_gain(bypass: bool) -> f32
     ensures { λ r. ⌜ r ≡ wetGain bypass ⌝ }
 {
     if bypass {
-        return 0.0;
+        return NOT_HEARD;
     }
-    1.0
+    HEARD
 }
 
 // The k-th run of n fresh buffers. Requires at most 12 channels, one of six runs, and room for all.
