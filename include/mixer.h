@@ -64,8 +64,8 @@ enum mixer_number {
     MIXER_BAD_NODE = 14, /* a node whose len is above 24 or whose left is above 16,777,216 */
 
     /* to the reader of lists and folds */
-    MIXER_NO_SLOT = 15,     /* a slot above the highest that an Output names */
-    MIXER_NO_FORMAT = 16,   /* a format above 6 */
+    MIXER_NO_SLOT = 15,      /* a slot above the highest that an Output names */
+    MIXER_NO_FORMAT = 16,    /* a format above 6; to the layout writer too, of an insert */
     MIXER_OUT_OF_RANGE = 17, /* a fold gain not from +0 to 16, a balance that is not finite, a width not from -2 to 2 */
 
     /* to the layout writer, of an insert */

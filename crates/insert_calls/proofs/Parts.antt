@@ -1,5 +1,5 @@
 -- The parts of an insert as code makes them: calls and then more calls, the first of alike values, the Patches turn by turn, and the identity fold turn by
--- turn. -- Assumes nothing.
+-- turn. Assumes nothing.
 use mathlib.Core.Path.{_≡_, refl, sym, ap, _∙_}
 use mathlib.Core.List.{List, [], _∷_, _++_}
 use Prim.Native.Nat.{ℕ, zero, suc, _+_, _-_, _*_, _<_, _≤_}

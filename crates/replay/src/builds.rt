@@ -42,7 +42,7 @@ fn span(record: &[u32], i: u8, answer: SpanAnswer) -> bool {
 }
 
 // The answer of a call that makes a span, and the record after, which is area 1.
-fn spanned(words: &[u32], record: &[u32], i: u8, made: Spanned) -> bool {
+pub fn spanned(words: &[u32], record: &[u32], i: u8, made: Spanned) -> bool {
     let plan = made.plan;
     let answer = made.answer;
     span(record, i, answer) && compare::plan_left(words, record, 1, plan)

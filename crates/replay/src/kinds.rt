@@ -15,37 +15,39 @@ pub const NODE: u32 = 6;
 
 pub const STEP: u32 = 7;
 
-pub const FINISH: u32 = 8;
+pub const INSERT: u32 = 8;
 
-pub const CHECK_PLAN: u32 = 9;
+pub const FINISH: u32 = 9;
 
-pub const SET_PARAM: u32 = 10;
+pub const CHECK_PLAN: u32 = 10;
 
-pub const PROCESS: u32 = 11;
+pub const SET_PARAM: u32 = 11;
 
-pub const LOOKUP: u32 = 12;
+pub const PROCESS: u32 = 12;
 
-pub const DIRECTORY_BAD: u32 = 13;
+pub const LOOKUP: u32 = 13;
 
-pub const OUTPUT_SOURCES: u32 = 14;
+pub const DIRECTORY_BAD: u32 = 14;
 
-pub const ALL_SOURCES: u32 = 15;
+pub const OUTPUT_SOURCES: u32 = 15;
 
-pub const CLEAN_ANSWER: u32 = 16;
+pub const ALL_SOURCES: u32 = 16;
 
-pub const ADOPT: u32 = 17;
+pub const CLEAN_ANSWER: u32 = 17;
 
-pub const LABELS: u32 = 18;
+pub const ADOPT: u32 = 18;
 
-pub const BALANCE_GAINS: u32 = 19;
+pub const LABELS: u32 = 19;
 
-pub const BALANCE_OF: u32 = 20;
+pub const BALANCE_GAINS: u32 = 20;
 
-pub const STEREO_MATRIX: u32 = 21;
+pub const BALANCE_OF: u32 = 21;
 
-pub const WIDTH_MATRIX: u32 = 22;
+pub const STEREO_MATRIX: u32 = 22;
 
-pub const TO_F32: u32 = 23;
+pub const WIDTH_MATRIX: u32 = 23;
+
+pub const TO_F32: u32 = 24;
 
 // Writes the name of the call.
 pub fn name(kind: u32) {
@@ -57,6 +59,7 @@ pub fn name(kind: u32) {
         COEFFICIENTS => put(b"coefficients"),
         NODE => put(b"node"),
         STEP => put(b"step"),
+        INSERT => put(b"insert"),
         FINISH => put(b"finish"),
         CHECK_PLAN => put(b"check_plan"),
         SET_PARAM => put(b"set_param"),

@@ -7,6 +7,7 @@ mod counts;
 mod data;
 mod file;
 mod folds;
+mod inserts;
 mod kinds;
 mod records;
 mod runs;

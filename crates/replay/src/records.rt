@@ -5,12 +5,13 @@ use crate::counts;
 use crate::data;
 use crate::data::word;
 use crate::folds;
+use crate::inserts;
 use crate::kinds;
 use crate::runs;
 use crate::traces;
 
 // One more than there are kinds, since they start at 1.
-const KINDS: usize = 24;
+const KINDS: usize = 25;
 
 // How many areas and how many numbers a record of a kind has.
 const AREAS: [u32; KINDS] = [
@@ -22,6 +23,7 @@ const AREAS: [u32; KINDS] = [
     5,
     7,
     5,
+    12,
     4,
     7,
     5,
@@ -49,6 +51,7 @@ const NUMBERS: [u32; KINDS] = [
     2,
     3,
     0,
+    19,
     0,
     0,
     4,
@@ -112,6 +115,7 @@ fn built(words: &[u32], record: &[u32], kind: u32) -> bool {
         kinds::COEFFICIENTS => builds::coefficients(words, record),
         kinds::NODE => builds::node(words, record),
         kinds::STEP => builds::step(words, record),
+        kinds::INSERT => inserts::insert(words, record),
         kinds::FINISH => builds::finish(words, record),
         _ => false,
     }

@@ -5,6 +5,7 @@ use crate::mixer::{FoldGains, Span};
 use crate::ops::{Input, Setting};
 use crate::paper;
 use crate::plan::{Areas, Layout, Step, FLOATS, VALUES, WORDS};
+use crate::recorded_inserts::INSERTS;
 use crate::rust;
 
 /// These take much room, and are reached once.
@@ -41,7 +42,7 @@ pub const LIMITS: &[&str] = &[
 
 /// How often a branch is to be reached, where it may be reached often.
 pub fn often(name: &str, times: u32) -> u32 {
-    if [LONG_BLOCK, LONG_DIRECTORY, entries::PATCH[FULL], entries::LOOKUP[FULL]].contains(&name) {
+    if [LONG_BLOCK, LONG_DIRECTORY, entries::PATCH[FULL], entries::LOOKUP[FULL]].contains(&name) || INSERTS.contains(&name) {
         return 1;
     }
     times

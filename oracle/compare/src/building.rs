@@ -1,7 +1,8 @@
 //! A plan built through the builder calls of both sides, compared after each.
+use crate::inserts;
 use crate::judge::{same, Fault, Found, Judge};
 use crate::layouts::Gen;
-use crate::mixer::{self, BufferReply, NodeReply, PlanReply, SpanReply, Status};
+use crate::mixer::{self, BufferReply, InsertPoint, NodeReply, PlanReply, SpanReply, Status};
 use crate::plan::{Areas, Call, Layout, NodeCall, Step};
 use crate::rust::{self, PlanBuilder};
 use crate::twin::{areas, Twin};
@@ -35,12 +36,14 @@ impl Build<'_> {
     }
 
     fn call(&mut self, g: &mut Gen, call: &Call) -> Found {
-        self.j.counts.calls += 1;
+        self.j.counts.calls += !matches!(call, Call::Index(_)) as u64;
         match call {
             Call::Buffers(n) => self.buffers(g, *n)?,
             Call::Coefficients(values) => self.coefficients(values)?,
             Call::Node(n) => self.node(n)?,
             Call::Step(s) => self.step(s)?,
+            Call::Insert(i) => self.insert(i)?,
+            Call::Index(list) => self.index(list),
         }
         areas(&self.want, &self.port)
     }
@@ -122,15 +125,21 @@ impl Build<'_> {
         same("step", &PlanReply { status: Status::default(), plan: self.want.plan }, &reply)
     }
 
-    /// `finish` on both sides; before it the layout writer's own index list, where there is one.
-    fn finish(mut self, layout: Layout) -> Result<Twin, String> {
-        if layout.own_index {
-            peek::set_indices(&mut self.rust, &layout.index);
-            for a in [&mut self.want, &mut self.port] {
-                a.indices[..layout.index.len()].copy_from_slice(&layout.index);
-                a.plan.indices = layout.index.len();
-            }
+    /// The layout writer's own index list, on both sides.
+    fn index(&mut self, list: &[u32]) {
+        peek::set_indices(&mut self.rust, list);
+        for a in [&mut self.want, &mut self.port] {
+            a.indices[..list.len()].copy_from_slice(list);
+            a.plan.indices = list.len();
         }
+    }
+
+    fn insert(&mut self, i: &InsertPoint) -> Found {
+        let expected = inserts::follow(self.j, &mut self.rust, i, &mut self.want);
+        same("insert", &expected, &inserts::call(&mut self.port, i))
+    }
+
+    fn finish(mut self, layout: Layout) -> Result<Twin, String> {
         let reply = mixer::finish(self.port.plan, &mut self.port.buffers);
         self.j.counts.calls += 1;
         let rust = self.rust.finish();

@@ -1,10 +1,13 @@
 //! Random clean layouts: a step reads what an earlier one wrote, and no Gain has a dst longer than its src. The index list is the builder's
 //! own, 0, 1, 2, …, as builder calls alone make it.
+use crate::folds::channels;
+use crate::inserts::extend;
 use crate::layouts::Gen;
-use crate::mixer::{self, Span};
+use crate::mixer::{self, Plan, Span};
 use crate::numbers;
 use crate::paper::{self, Tables, MAX_NODES, MAX_STEPS};
 use crate::plan::{span, Layout, NodeCall, Step, VALUES};
+use crate::points::fits;
 
 /// The buffers of a span.
 pub fn buffers(s: Span) -> std::ops::Range<usize> {
@@ -69,12 +72,37 @@ impl Gen {
         for _ in 0..self.r.range(1, 4) {
             self.out(&mut d);
         }
-        let mut l = d.l;
         if !ramps {
-            l.nodes.iter_mut().for_each(|n| n.ramp = 0);
+            d.l.nodes.iter_mut().for_each(|n| n.ramp = 0);
         }
-        self.calls(&mut l);
-        l
+        self.calls(&mut d.l, &Plan::default());
+        if self.r.percent(35) {
+            (0..self.r.pick(&[1, 1, 2])).for_each(|_| self.clean_insert(&mut d, ramps));
+        }
+        d.l
+    }
+
+    /// An insert on buffers that were written, as many as its format has channels, or more without a return; then steps that read what it made.
+    fn clean_insert(&mut self, d: &mut Draft, ramps: bool) {
+        let mut i = self.point(0, &d.l.ids());
+        let n = channels(i.format);
+        let runs: Vec<Span> = (0..d.l.buffers).map(|b| span(b, d.written[b..].iter().take_while(|w| **w).count())).collect();
+        let long: Vec<Span> = runs.into_iter().filter(|s| s.len as usize >= n).collect();
+        if long.is_empty() || !fits(&d.l.counts(), &i) {
+            return;
+        }
+        i.src = self.r.pick(&long);
+        i.src.len = if i.returns || self.r.percent(70) { n as u32 } else { i.src.len };
+        i.ramp = if ramps { i.ramp } else { 0 };
+        let out = extend(&mut d.l, &i);
+        d.written.resize(d.l.buffers, true);
+        let from = d.l.counts();
+        for _ in 0..self.r.below(3) {
+            let s = self.clean_step(d);
+            d.add(s);
+        }
+        d.add(Step::Output { src: out, slot: self.slot() });
+        self.calls(&mut d.l, &from);
     }
 
     /// A Patch into most buffers, a Clear of some others; one buffer at least is written.

@@ -1,7 +1,7 @@
 //! Comparison: the first difference ends a run. A planted fault changes what the reference says, so that a run must find it.
 use crate::entries::Tally;
 use crate::mixer::Status;
-use crate::shapes::{Pairs, Shapes};
+use crate::shapes::{Inserts, Pairs, Shapes};
 use std::fmt::Debug;
 
 /// The first difference, in words.
@@ -94,6 +94,15 @@ faults! {
     BuiltWord: "a word of a step's record",
     BuiltWeight: "the last bit of a coefficient",
     BuiltIndex: "an index entry",
+    InsertBypass: "an insert whose bypass swaps dry and wet",
+    InsertOutput: "an insert whose Output reads the source",
+    InsertPatch: "an insert whose Patches take the return's input without − 1",
+    InsertWeights: "an insert whose dry Send has all its coefficients whatever the source",
+    InsertSpan: "an insert that hands back the span of its send",
+    InsertGrown: "an insert whose source is held against the index list as it grows",
+    InsertLast: "an insert whose last channel is not tested",
+    InsertIds: "an insert whose ids are held against those of the plan alone",
+    InsertNodes: "an insert that counts a node less than it makes",
     OldNode: "a node of the old plan after an adoption",
     FirstEntry: "the first entry for a channel decides in a run",
     LongEntry: "an entry that is too short is passed over in a run for an earlier one",
@@ -144,8 +153,9 @@ pub struct Counts {
     pub folds: u64,
     pub damaged: u64,
     pub accepted: u64,
-    pub refused: [u64; 18],
+    pub refused: [u64; 19],
     pub shapes: Shapes,
+    pub inserts: Inserts,
     /// What directories had for the channels of Patches in runs, and for those that were looked up.
     pub patched: Tally,
     pub looked_up: Tally,

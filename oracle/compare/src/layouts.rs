@@ -1,5 +1,5 @@
 //! Random layouts that the plan check accepts, of every shape that the limits allow.
-use crate::mixer::Span;
+use crate::mixer::{Plan, Span};
 use crate::paper::{self, Tables, MAX_RAMP, MAX_STEPS};
 use crate::plan::{span, Call, Layout, NodeCall, Step};
 use crate::rng::{Rng, Wild};
@@ -95,7 +95,13 @@ impl Gen {
         l.coefficients = (0..weights).map(|_| self.wild.gain(&mut self.r)).collect();
         self.nodes(&mut l, like, large);
         self.steps(&mut l, large);
-        self.calls(&mut l);
+        self.calls(&mut l, &Plan::default());
+        if l.own_index {
+            l.calls.push(Call::Index(l.index.clone()));
+        }
+        if self.r.percent(25) {
+            self.inserts(&mut l);
+        }
         l
     }
 
@@ -152,7 +158,7 @@ impl Gen {
     }
 
     /// A step that the plan check accepts; after many tries a Clear of nothing.
-    fn step(&mut self, l: &Layout) -> Step {
+    pub fn step(&mut self, l: &Layout) -> Step {
         let t = Tables { buffers: l.buffers, index: &l.index, coefficients: l.coefficients.len(), nodes: l.nodes.len() };
         for _ in 0..40 {
             let s = self.any_step(&t);
@@ -187,9 +193,10 @@ impl Gen {
         }
     }
 
-    /// The builder calls: each table in its order, the tables mixed.
-    pub fn calls(&mut self, l: &mut Layout) {
-        let (mut buffers, mut weights, mut nodes, mut steps) = (l.buffers, &l.coefficients[..], &l.nodes[..], &l.steps[..]);
+    /// The builder calls for what a layout has behind these counts: each table in its order, the tables mixed.
+    pub fn calls(&mut self, l: &mut Layout, from: &Plan) {
+        let mut buffers = l.buffers - from.buffers;
+        let (mut weights, mut nodes, mut steps) = (&l.coefficients[from.coefficients..], &l.nodes[from.nodes..], &l.steps[from.steps..]);
         while buffers > 0 || !weights.is_empty() || !nodes.is_empty() || !steps.is_empty() {
             match self.r.below(4) {
                 0 if buffers > 0 => {

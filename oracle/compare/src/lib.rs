@@ -7,6 +7,7 @@ mod desks;
 mod entries;
 mod faults;
 mod folds;
+mod inserts;
 mod judge;
 mod kinds;
 mod layouts;
@@ -21,10 +22,12 @@ mod paper;
 mod plan;
 mod plans;
 mod planted;
+mod points;
 mod races;
 mod record;
 mod recorded;
 mod recorded_folds;
+mod recorded_inserts;
 mod recorded_refusals;
 mod refused;
 mod rng;
@@ -79,6 +82,10 @@ fn print(c: &Counts) {
     if c.plans > 0 && c.damaged == 0 {
         println!("shapes: {}", shapes.join(", "));
     }
+    let inserts: Vec<String> = c.inserts.list().iter().map(|(n, what)| format!("{what} {n}")).collect();
+    if c.inserts.all > 0 {
+        println!("inserts: {}", inserts.join(", "));
+    }
     for (what, entries) in [("channels of Patches", &c.patched), ("channels looked up", &c.looked_up)] {
         let entries: Vec<String> = entries.list().iter().filter(|e| e.0 > 0).map(|(n, what)| format!("{what} {n}")).collect();
         if !entries.is_empty() {
@@ -89,7 +96,7 @@ fn print(c: &Counts) {
     if c.pairs.pairs > 0 {
         println!("pairs of lists: {}", pairs.join(", "));
     }
-    let refused: Vec<String> = (1..18).filter(|n| c.refused[*n] > 0).map(|n| format!("{n}: {}", c.refused[n])).collect();
+    let refused: Vec<String> = (1..c.refused.len()).filter(|n| c.refused[*n] > 0).map(|n| format!("{n}: {}", c.refused[n])).collect();
     println!("refused calls by number: {}", refused.join(", "));
 }
 

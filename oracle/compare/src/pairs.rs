@@ -1,5 +1,6 @@
 //! `oracle pairs`: demand 3 by running. A clean plan is built twice, and two lists of calls that it says are alike must write the same samples.
 use crate::clean::mixed;
+use crate::inserts;
 use crate::judge::{same, Fault, Found, Judge};
 use crate::layouts::Gen;
 use crate::lists::{self, Pair};
@@ -116,6 +117,11 @@ fn accepted(g: &mut Gen, a: &mut Areas, call: &Call) -> Found {
             let reply = mixer::step(a.plan, &s.record(), &mut a.steps);
             (reply.status, reply.plan)
         }
+        Call::Insert(i) => {
+            let reply = inserts::call(a, &inserts::same_point(&mut g.r, i));
+            (reply.status, reply.plan)
+        }
+        Call::Index(_) => panic!("a clean layout has the builder's index list"),
     };
     a.plan = plan;
     same("builder call", &mixer::Status::default(), &status)
@@ -168,6 +174,8 @@ fn pair(j: &mut Judge, g: &mut Gen, l: &Layout, built: [&Areas; 2], lists: &mut 
     p.count(j, &first, &second);
     j.counts.pairs.listed += !equal.is_empty() as u64;
     j.counts.pairs.mixed += mixed(l, slot) as u64;
+    j.counts.pairs.inserts += (l.inserts().count() > 0) as u64;
+    j.counts.pairs.returns += l.inserts().any(|i| i.returns) as u64;
     j.counts.pairs.several += (outputs(l, slot) > 1) as u64;
     plant_in_output(j, l, slot, &mut second);
     lists::compare(j, l, lists, &equal, &first, &second)

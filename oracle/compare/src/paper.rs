@@ -1,7 +1,8 @@
 //! Document 01's checks, written from its words a second time: the first fault in its order answers. Nothing here is taken from the port's code.
 //! Where the words leave room (whose words end where, which nodes are lent), docs/DECISIONS.md, points 1 to 8, 12, is followed. The channel lookup
-//! goes by request C-11.
-use crate::mixer::{Plan, Span, Status};
+//! goes by request C-11, an insert's own tests by request C-12.
+use crate::judge::Fault;
+use crate::mixer::{InsertPoint, Plan, Span, Status};
 use crate::plan::{Areas, Step, FLOATS, VALUES, WORDS};
 
 pub const MAX_BLOCK: usize = 1024;
@@ -234,4 +235,68 @@ pub fn clean(a: &Areas) -> Answer<bool> {
         writes.iter().for_each(|b| written[*b as usize] = true);
     }
     Ok(clean)
+}
+
+/// The channels of the formats.
+const CHANNELS: [usize; 7] = [1, 2, 3, 6, 8, 10, 12];
+
+/// What an insert of a format that there is adds to each count.
+pub fn insert_growth(i: &InsertPoint) -> Plan {
+    let n = CHANNELS[i.format as usize];
+    if i.returns {
+        return Plan { block: 0, buffers: 6 * n, indices: 6 * n, coefficients: n * n, nodes: 6, steps: n + 8, words: 4 * n + 47 };
+    }
+    Plan { block: 0, buffers: n, indices: n, coefficients: 0, nodes: 1, steps: 2, words: 10 }
+}
+
+/// A count and what is added to it, where anything is, are above a limit.
+fn over(count: usize, more: usize, limit: usize) -> bool {
+    more > 0 && count as u128 + more as u128 > limit as u128
+}
+
+/// A count is above its limit by what an insert adds.
+pub fn insert_over(p: &Plan, more: &Plan, wrong: Option<Fault>) -> bool {
+    let tables = over(p.buffers, more.buffers, MAX_BUFFERS)
+        || over(p.indices, more.indices, MAX_INDICES)
+        || over(p.coefficients, more.coefficients, MAX_COEFFICIENTS);
+    let nodes = more.nodes - (wrong == Some(Fault::InsertNodes)) as usize;
+    tables || over(p.nodes, nodes, MAX_NODES) || over(p.steps, more.steps, MAX_STEPS)
+}
+
+/// The tests of an insert, one of them asked as a planted fault asks it.
+pub fn insert(a: &Areas, i: &InsertPoint, wrong: Option<Fault>) -> Answer<()> {
+    let p = &a.plan;
+    test(i.format > 6, 16)?;
+    let n = CHANNELS[i.format as usize];
+    let last = i.back.channel as u64 + n as u64 - 1;
+    let far = last > u32::MAX as u64 && wrong != Some(Fault::InsertLast);
+    test(i.returns && (i.back.input == 0 || i.back.channel == 0 || far), 18)?;
+    let more = insert_growth(i);
+    let listed = p.indices as u128 + if wrong == Some(Fault::InsertGrown) { more.indices as u128 } else { 0 };
+    test(i.src.start as u128 + i.src.len as u128 > listed, 4)?;
+    test(insert_over(p, &more, wrong), 5)?;
+    let lists = over(p.indices, more.indices, a.indices.len()) || over(p.coefficients, more.coefficients, a.coefficients.len());
+    let nodes = p.nodes + more.nodes;
+    let short_nodes = short(a.floats.len(), nodes, FLOATS) || short(a.words.len(), nodes, WORDS);
+    test(lists || short_nodes || over(p.words, more.words, a.steps.len()), 2)?;
+    let new = [i.ids.send, i.ids.ret, i.ids.dry, i.ids.wet, i.ids.dryin, i.ids.wetin];
+    let used = |id: &u32| (0..p.nodes).any(|k| a.words[WORDS * k] == *id);
+    let again = (0..more.nodes).any(|k| new[..k].contains(&new[k])) && wrong != Some(Fault::InsertIds);
+    test(new[..more.nodes].iter().any(used) || again, 8)?;
+    test(i.ramp > MAX_RAMP, 10)
+}
+
+/// What the plan check finds after an insert on a plan of so many steps that it accepts, in areas that are long enough: a place past the steps that were
+/// there, always with 4.
+pub fn insert_found(steps: usize, i: &InsertPoint) -> Answer<()> {
+    let n = CHANNELS[i.format as usize];
+    let found = [
+        (i.slot >= SLOTS, steps + 2),
+        (i.returns && i.back.input > INPUTS, steps + 3),
+        (i.returns && i.src.len as usize > n, steps + n + 7),
+    ];
+    match found.iter().find(|f| f.0) {
+        Some((_, place)) => Err(Status { number: 4, place: *place as u32 }),
+        None => Ok(()),
+    }
 }

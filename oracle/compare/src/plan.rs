@@ -1,5 +1,5 @@
 //! A plan: its steps, the builder calls that make it, and the areas that a caller lends with it.
-use crate::mixer::{Plan, Span};
+use crate::mixer::{InsertPoint, Plan, Span};
 
 /// Values of a node; its floats and words in the areas.
 pub const VALUES: usize = 24;
@@ -47,6 +47,9 @@ pub enum Call {
     Coefficients(Vec<f32>),
     Node(NodeCall),
     Step(Step),
+    /// No call: the layout writer's own index list in place of the builder's.
+    Index(Vec<u32>),
+    Insert(InsertPoint),
 }
 
 /// What a plan is made of, and the builder calls, in order, that make it.
@@ -55,18 +58,41 @@ pub struct Layout {
     pub block: usize,
     pub buffers: usize,
     pub index: Vec<u32>,
-    /// The index list is the layout writer's own; else it is the builder's, which is 0, 1, 2, …
+    /// The index list is the layout writer's own, up to what inserts add; else it is the builder's, which is 0, 1, 2, …
     pub own_index: bool,
     pub coefficients: Vec<f32>,
     pub nodes: Vec<NodeCall>,
     pub steps: Vec<Step>,
     pub calls: Vec<Call>,
+    /// How many of the inserts are on the span of another one.
+    pub in_a_row: usize,
 }
 
 impl Layout {
     pub fn output_channels(&self) -> usize {
         let channels = |s: &Step| if let Step::Output { src, .. } = s { src.len as usize } else { 0 };
         self.steps.iter().map(channels).sum()
+    }
+
+    /// The record of the plan so far.
+    pub fn counts(&self) -> Plan {
+        Plan {
+            block: self.block,
+            buffers: self.buffers,
+            indices: self.index.len(),
+            coefficients: self.coefficients.len(),
+            nodes: self.nodes.len(),
+            steps: self.steps.len(),
+            words: self.steps.iter().map(|s| s.record().len()).sum(),
+        }
+    }
+
+    pub fn ids(&self) -> Vec<u32> {
+        self.nodes.iter().map(|n| n.id).collect()
+    }
+
+    pub fn inserts(&self) -> impl Iterator<Item = &InsertPoint> {
+        self.calls.iter().filter_map(|c| if let Call::Insert(i) = c { Some(i) } else { None })
     }
 }
 
@@ -96,7 +122,6 @@ impl Areas {
 
     /// Areas for a layout, each with `more` entries than it needs, that hold anything.
     pub fn for_layout(l: &Layout, more: usize) -> Self {
-        let words: usize = l.steps.iter().map(|s| s.record().len()).sum();
         let fresh = if l.own_index { l.buffers } else { 0 };
         let junk = f32::from_bits(0xdead_beef);
         Areas {
@@ -105,7 +130,7 @@ impl Areas {
             coefficients: vec![junk; l.coefficients.len() + more],
             floats: vec![junk; FLOATS * l.nodes.len() + more],
             words: vec![0xdead_beef; WORDS * l.nodes.len() + more],
-            steps: vec![0xdead_beef; words + more],
+            steps: vec![0xdead_beef; l.counts().words + more],
             buffers: vec![junk; l.buffers * l.block + more],
         }
     }

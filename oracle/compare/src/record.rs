@@ -1,13 +1,14 @@
 //! `oracle record FILE`: a sample of the reference's answers as a file, small enough to be kept with the port, whose program `replay` runs it.
 //! A case is taken where it reaches something that was not reached often enough yet, so that few cases reach everything on the lists of `branches.rs`,
-//! `entries.rs` and `recorded_refusals.rs`.
+//! `entries.rs`, `recorded_inserts.rs` and `recorded_refusals.rs`.
 use crate::branches::{often, BRANCHES, LIMITS};
 use crate::entries::{LOOKUP, PATCH};
 use crate::layouts::Gen;
 use crate::plan::Layout;
 use crate::recorded::{Case, Held};
+use crate::recorded_inserts::INSERTS;
 use crate::tape::{Kind, Tape, LONGEST};
-use crate::{recorded_folds, recorded_refusals};
+use crate::{recorded_folds, recorded_inserts, recorded_refusals};
 use std::collections::BTreeMap;
 
 /// Plans of seeds from 1 on are tried.
@@ -35,7 +36,9 @@ struct Recorder {
 fn small(l: &Layout) -> bool {
     let samples = l.buffers.max(l.output_channels()) * l.block;
     let few = samples <= 200 || (l.block == 1024 && samples <= 2048);
-    few && l.nodes.len() <= 3 && l.steps.len() <= 14 && l.coefficients.len() <= 16 && l.index.len() <= 30
+    let inserts = l.inserts().count();
+    let tables = l.nodes.len() <= 3 + 4 * inserts && l.coefficients.len() <= 16 + 4 * inserts && l.index.len() <= 30 + 6 * inserts;
+    few && tables && inserts < 3 && l.steps.len() <= 14 + 10 * inserts
 }
 
 impl Recorder {
@@ -103,6 +106,21 @@ impl Recorder {
         let mut c = Case::default();
         (0..6).for_each(|_| recorded_refusals::some(&mut c, &mut g, &h));
         self.take_refused(c);
+        self.inserts(&mut g, &h);
+    }
+
+    /// An insert on a record of its own, and one on a plan that was run, with the check after it.
+    fn inserts(&mut self, g: &mut Gen, h: &Held) {
+        let (mut own, mut after) = (Case::default(), Case::default());
+        recorded_inserts::alone(&mut own, g);
+        recorded_inserts::checked(&mut after, g, h);
+        for c in [own, after] {
+            if c.reached.is_empty() {
+                self.take_refused(c);
+            } else if self.wanted(&c) {
+                self.take(&c);
+            }
+        }
     }
 
     /// A plan and its trace; the builder calls only where there are not enough of them yet.
@@ -148,7 +166,7 @@ impl Recorder {
 
     /// What was not reached.
     fn missing(&self) -> Vec<String> {
-        let names = BRANCHES.iter().chain(LIMITS).chain(&PATCH).chain(&LOOKUP);
+        let names = BRANCHES.iter().chain(LIMITS).chain(INSERTS).chain(&PATCH).chain(&LOOKUP);
         let branches = names.filter(|name| !self.reached.contains_key(*name)).map(|name| name.to_string());
         let all = recorded_refusals::REFUSALS.iter().flat_map(|(kind, numbers)| numbers.iter().map(move |n| (*kind, *n)));
         let refusals = all.filter(|r| !self.refused.contains_key(r)).map(|(kind, n)| format!("{kind:?} refused {n}"));
@@ -176,15 +194,15 @@ fn rounds(c: &mut Case, g: &mut Gen, h: &mut Held) {
 
 fn text(r: &Recorder) -> String {
     format!(
-        "Answers of the Rust mixer (commit f575066b19) to calls of the plan engine and the folds, for `replay`.
+        "Answers of the Rust mixer (commit f575066b19) to calls of the plan engine, inserts and folds, for `replay`.
 Made by `oracle record FILE` (oracle/README.md): the same bytes each time.
-Plans are those of {} of the seeds 1 to {SEEDS}: where a branch is reached that fewer than {TIMES} cases had reached, and the first at every limit.
+Plans are those of {} of the seeds 1 to {SEEDS}: where a branch is reached that fewer than {TIMES} cases had, and the first at every limit.
 Samples, nodes, buffers, lists, balances, roundings and folds by its laws are the Rust's. What it lacks is the oracle's: refusals, the check and
-the clean answer by document 01, lookups by request C-11, other folds by a table.
+the clean answer by document 01, lookups by request C-11, tests of inserts by C-12, other folds by a table.
 
-After this text of 1,024 bytes: u32 words, the lowest byte first. Words 0 to 4: 5245504C (hexadecimal), version 2, words in all, records,
+After this text of 1,024 bytes: u32 words, the lowest byte first. Words 0 to 4: 5245504C (hex), version 3, words in all, records,
 where the records start; before that the areas. A record: kind, length in words, refusal's number and place (0: accepted),
-how many areas, for each its start and length in words, then the numbers of its kind (crates/replay/src has each kind's).
+how many areas, start and length of each in words, then its numbers (crates/replay/src has each kind's).
 Floats are their bits, all NaN 7FC00000; f64 and counts are two words, the lower one first.
 ",
         r.plans

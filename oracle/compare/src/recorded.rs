@@ -1,11 +1,13 @@
 //! Records of calls whose answers the reference gives: a plan is built, set, run, traced and adopted in it, and each call is written down.
 use crate::branches;
 use crate::entries::{Entries, LOOKUP};
+use crate::inserts;
 use crate::layouts::Gen;
-use crate::mixer::{Plan, Status};
+use crate::mixer::{InsertPoint, Plan, Status};
 use crate::ops::{Input, NodePoke, Setting};
 use crate::paper;
 use crate::plan::{Areas, Call, Layout, NodeCall, Step, FLOATS, WORDS};
+use crate::recorded_inserts;
 use crate::rust::{self, PlanBuilder};
 use crate::tape::{bits, plan, size, Kind, Record};
 use crate::traced::PLACES;
@@ -54,6 +56,12 @@ impl Case {
                 Call::Coefficients(values) => self.coefficients(&mut b, &mut a, values),
                 Call::Node(n) => self.node(&mut b, &mut a, n),
                 Call::Step(s) => self.step(&mut b, &mut a, s),
+                Call::Insert(i) => self.insert(&mut b, &mut a, i),
+                Call::Index(list) => {
+                    peek::set_indices(&mut b, list);
+                    a.indices[..list.len()].copy_from_slice(list);
+                    a.plan.indices = list.len();
+                }
             }
         }
         self.finish(b, a, layout)
@@ -108,13 +116,15 @@ impl Case {
         self.accepted(Kind::Step, vec![before, plan(&a.plan), record, was, a.steps.clone()], vec![]);
     }
 
-    /// `finish`, after the layout writer's own index list where there is one, and the check.
-    fn finish(&mut self, mut b: PlanBuilder, mut a: Areas, layout: Layout) -> Held {
-        if layout.own_index {
-            peek::set_indices(&mut b, &layout.index);
-            a.indices[..layout.index.len()].copy_from_slice(&layout.index);
-            a.plan.indices = layout.index.len();
-        }
+    fn insert(&mut self, b: &mut PlanBuilder, a: &mut Areas, i: &InsertPoint) {
+        let before = a.clone();
+        let added = inserts::add(b, i);
+        added.put(a);
+        self.inserted(&before, a, i, added.span);
+    }
+
+    /// `finish` and the check.
+    fn finish(&mut self, b: PlanBuilder, mut a: Areas, layout: Layout) -> Held {
         let was = bits(&a.buffers);
         let rust = b.finish();
         a.buffers[..layout.buffers * layout.block].copy_from_slice(peek::buffers(&rust));
@@ -129,6 +139,7 @@ impl Case {
         let known = h.rust.set_param(s.id, &s.values, s.ramp);
         if known {
             self.reached.extend(branches::setting(&h.layout, &h.areas, s));
+            self.reached.extend(recorded_inserts::setting(&h.layout, s.id));
         }
         rust::nodes_to(&h.rust.nodes, &mut h.areas.floats, &mut h.areas.words);
         let status = if known { Status::default() } else { Status { number: 9, place: 0 } };
@@ -142,6 +153,7 @@ impl Case {
         let mut output = rust::process(&mut h.rust, &input.directory, &input.samples);
         let count = output.len();
         self.reached.extend(branches::run(&h.layout, &before, input, &output, more));
+        self.reached.extend(recorded_inserts::run(&h.layout, &before, input));
         output.resize(count + more, 7.5);
         let a = &mut h.areas;
         rust::nodes_to(&h.rust.nodes, &mut a.floats, &mut a.words);

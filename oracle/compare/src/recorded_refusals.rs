@@ -19,6 +19,7 @@ pub const REFUSALS: &[(Kind, &[u32])] = &[
     (Kind::Coefficients, &[5, 2]),
     (Kind::Node, &[5, 2, 7, 8, 10]),
     (Kind::Step, &[5, 2, 3, 7]),
+    (Kind::Insert, &[16, 18, 4, 5, 2, 8, 10]),
     (Kind::Finish, &[1, 5, 2]),
     (Kind::CheckPlan, &[1, 5, 2, 4, 8, 3, 7, 6]),
     (Kind::SetParam, &[5, 2, 14, 8, 10, 9]),

@@ -25,6 +25,21 @@ pub fn step(s: &Step) -> reference::engine::plan::Step {
     }
 }
 
+/// A step of those kinds.
+pub fn step_back(s: &reference::engine::plan::Step) -> Step {
+    use reference::engine::plan::Step as From;
+    let span = span_back;
+    match *s {
+        From::Patch { input, channel, dst } => Step::Patch { input, channel, dst },
+        From::Gain { node, src, dst } => Step::Gain { node, src: span(src), dst: span(dst) },
+        From::Matrix { node, src, dst } => Step::Matrix { node, src: span(src), dst: span(dst) },
+        From::Clear { dst } => Step::Clear { dst: span(dst) },
+        From::Send { node, src, dst, coefficients } => Step::Send { node, src: span(src), dst: span(dst), weights: span(coefficients) },
+        From::Output { src, slot } => Step::Output { src: span(src), slot },
+        _ => panic!("a {}", s.kind()),
+    }
+}
+
 /// The lent input block.
 struct Directory<'a>(&'a [u32], &'a [f32]);
 
@@ -63,12 +78,16 @@ pub fn len_of(n: &reference::engine::plan::Node) -> u32 {
 /// Writes the nodes to the front of node areas, as document 01 lays them out.
 pub fn nodes_to(nodes: &[reference::engine::plan::Node], floats: &mut [f32], words: &mut [u32]) {
     for ((n, f), w) in nodes.iter().zip(floats.chunks_exact_mut(FLOATS)).zip(words.chunks_exact_mut(WORDS)) {
-        let r = peek::node(n);
-        f[..VALUES].copy_from_slice(&r.cur);
-        f[VALUES..2 * VALUES].copy_from_slice(&r.target);
-        f[2 * VALUES..].copy_from_slice(&r.step);
-        w.copy_from_slice(&[r.id, r.len, r.left]);
+        node_to(&peek::node(n), f, w);
     }
+}
+
+/// One node, to its own floats and words.
+pub fn node_to(r: &peek::Raw, floats: &mut [f32], words: &mut [u32]) {
+    floats[..VALUES].copy_from_slice(&r.cur);
+    floats[VALUES..2 * VALUES].copy_from_slice(&r.target);
+    floats[2 * VALUES..].copy_from_slice(&r.step);
+    words.copy_from_slice(&[r.id, r.len, r.left]);
 }
 
 /// Takes the nodes from node areas.

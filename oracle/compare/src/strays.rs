@@ -1,10 +1,11 @@
 //! Refused calls strewn into the builds and the lists of a pair: they go to the plan itself and must leave it as it was, which the outputs
 //! show. Their numbers are document 01's.
+use crate::inserts;
 use crate::judge::{same, Found, Judge};
 use crate::layouts::Gen;
 use crate::misbuilt;
 use crate::mixer::{self, Status};
-use crate::paper::{MAX_RAMP, MAX_STEPS};
+use crate::paper::{self, MAX_RAMP, MAX_STEPS};
 use crate::plan::{Areas, Layout, WORDS};
 use crate::refused::{self, off, off32};
 use crate::signals::Channel;
@@ -12,10 +13,11 @@ use crate::signals::Channel;
 /// A refused builder call, or none where document 01 accepts what came out.
 pub fn builder(j: &mut Judge, g: &mut Gen, a: &mut Areas) -> Found {
     let before = j.counts.calls;
-    match g.r.below(4) {
+    match g.r.below(5) {
         0 => buffers(j, g, a)?,
         1 => coefficients(j, g, a)?,
         2 => node(j, g, a)?,
+        3 => insert(j, g, a)?,
         _ => step(j, g, a)?,
     }
     j.counts.pairs.refused_built += j.counts.calls - before;
@@ -59,6 +61,19 @@ fn step(j: &mut Judge, g: &mut Gen, a: &mut Areas) -> Found {
     let Err(status) = misbuilt::step(&a.plan, &words, a.steps.len()) else { return Ok(()) };
     let reply = mixer::step(a.plan, &words, &mut a.steps);
     record(j, "step", status, a, reply.status, reply.plan)
+}
+
+/// An insert, with a source that ends past the index list, an id that is taken, a ramp that is too long, or areas that are too short.
+fn insert(j: &mut Judge, g: &mut Gen, a: &mut Areas) -> Found {
+    let ids: Vec<u32> = a.words[..WORDS * a.plan.nodes].chunks(WORDS).map(|w| w[0]).collect();
+    let mut i = g.point(a.plan.indices, &ids);
+    g.odd(a, &mut i);
+    let Err(status) = paper::insert(a, &i, None) else { return Ok(()) };
+    let plan = a.plan;
+    let reply = inserts::call(a, &i);
+    a.plan = plan;
+    j.counts.inserts.refused(status.number);
+    record(j, "insert", status, a, reply.status, reply.plan)
 }
 
 /// A step of no words.

@@ -92,6 +92,7 @@ impl Twin {
         j.counts.samples += count as u64;
         j.counts.shapes.samples(&expected);
         j.counts.patched.run(&self.layout.steps, input, self.layout.block);
+        j.counts.inserts.run(&self.layout, &self.want, input);
         expected.resize(count + more, 7.5);
         let mut output = vec![7.5; expected.len()];
         let p = &mut self.port;

@@ -10,13 +10,12 @@ pub mod model {
 
 source::module! { chain "mix/chain.rs" {} }
 
-/// Of compile.rs only an insert and the gain stage, with what they stand on: for insert points, which the library does not have yet. No comparison
-/// runs them. Of what they note down beside the plan (layout, meters, probes, endpoints) nothing is read.
+/// Of compile.rs only an insert and the gain stage, with what they stand on. Of what they note down beside the plan (layout, meters, probes, endpoints)
+/// nothing is read.
 pub mod compile {
     use super::chain::{Proc, ProcKind};
     use super::format::{width_matrix, Format, Laws};
-    use super::model::Db;
-    use crate::engine::plan::{NodeId, PlanBuilder, Span, Step};
+    use crate::engine::plan::{self, NodeId, Span, Step};
     use std::collections::{hash_map::DefaultHasher, HashMap};
     use std::hash::{Hash, Hasher};
 
@@ -32,6 +31,55 @@ pub mod compile {
     /// Stand-in: of a compiler a node's id by its key, which is all that an insert asks of it.
     pub struct Compiler {
         ids: HashMap<String, NodeId>,
+    }
+
+    /// Stand-in: a level that is a linear gain already.
+    struct Db(f64);
+
+    impl Db {
+        fn gain(self) -> f64 {
+            self.0
+        }
+    }
+
+    /// Stand-in: the reference's builder for one insert. In place of the first meter it makes an Output to a slot, and in place of the second nothing.
+    pub struct PlanBuilder {
+        b: plan::PlanBuilder,
+        /// Until the Output is made.
+        slot: Option<u32>,
+    }
+
+    impl PlanBuilder {
+        fn buffers(&mut self, n: usize) -> Span {
+            self.b.buffers(n)
+        }
+
+        fn buffer(&self, span: Span, i: usize) -> u32 {
+            self.b.buffer(span, i)
+        }
+
+        fn coefficients(&mut self, values: &[f32]) -> Span {
+            self.b.coefficients(values)
+        }
+
+        fn node(&mut self, id: NodeId, values: &[f32], ramp: u32) -> u32 {
+            self.b.node(id, values, ramp)
+        }
+
+        fn meter(&mut self, _n: usize) -> u32 {
+            0
+        }
+
+        fn step(&mut self, step: Step) {
+            match (step, self.slot) {
+                (Step::Meter { src, .. }, Some(slot)) => {
+                    self.b.step(Step::Output { src, slot });
+                    self.slot = None;
+                }
+                (Step::Meter { .. }, None) => {}
+                (step, _) => self.b.step(step),
+            }
+        }
     }
 
     pub mod peek {

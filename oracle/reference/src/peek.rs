@@ -49,6 +49,10 @@ pub fn step_count(b: &PlanBuilder) -> usize {
     b.plan.steps.len()
 }
 
+pub fn steps(b: &PlanBuilder) -> &[Step] {
+    &b.plan.steps
+}
+
 /// Another index list, as a layout writer can make it; the builder itself only adds fresh numbers.
 pub fn set_indices(b: &mut PlanBuilder, list: &[u32]) {
     b.plan.indices = list.to_vec();

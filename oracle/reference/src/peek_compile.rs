@@ -4,11 +4,20 @@ use super::*;
 /// The last words of the keys of an insert's nodes, in the order in which they are made.
 pub const NODES: [&str; 6] = ["send", "return", "dry", "wet", "dryin", "wetin"];
 
-/// The insert `p` on `src`, made by a builder, with the ids of its nodes in the order of `NODES`. Returns the builder and the insert's output.
-pub fn insert(b: PlanBuilder, ids: [NodeId; 6], ramp: u32, p: &Proc, format: Format, src: Span) -> (PlanBuilder, Span) {
+/// The insert `p` on `src`, whose gains are linear, made by a builder, with the ids of its nodes in the order of `NODES` and an Output to `slot`. Returns
+/// the builder and the insert's output.
+pub fn insert(
+    b: plan::PlanBuilder,
+    ids: [NodeId; 6],
+    ramp: u32,
+    slot: u32,
+    p: &Proc,
+    format: Format,
+    src: Span,
+) -> (plan::PlanBuilder, Span) {
     let key = |name| format!("insert/signal/{}/{name}", p.id);
     let mut build = Build {
-        b,
+        b: PlanBuilder { b, slot: Some(slot) },
         compiler: &mut Compiler { ids: NODES.map(key).into_iter().zip(ids).collect() },
         ramp,
         nodes: HashMap::new(),
@@ -20,5 +29,5 @@ pub fn insert(b: PlanBuilder, ids: [NodeId; 6], ramp: u32, p: &Proc, format: For
         probes: Vec::new(),
     };
     let out = build.insert("signal", p, format, src, 0);
-    (build.b, out)
+    (build.b.b, out)
 }
