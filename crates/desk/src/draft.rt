@@ -4,6 +4,7 @@ use builder::SpanAnswer;
 use builder_calls::Numbered;
 use builder_calls::PlanBuilder;
 use builder_calls::Spanned;
+use insert::InsertPoint;
 use plan::Plan;
 use plan::Span;
 use refusal::Answer;
@@ -12,13 +13,15 @@ ghost use lib.ListN.{length};
 ghost use Rattle.plan.specs.Limits.{unitLimits};
 ghost use Rattle.builder.specs.Growth.{buffersGrowth, coefficientsGrowth, nodeGrowth, stepGrowth};
 ghost use Rattle.builder.specs.Calls.{planAfter, buffersAnswer, buffersSpan, buffersIndices, coefficientsAnswer, coefficientsSpan, coefficientsArea, nodeAnswer, nodeNumber, nodeFloatsArea, nodeWordsArea, recordLength, stepAnswer, stepArea, finishAnswer, finishArea};
+ghost use Rattle.builder.specs.Built.{builderState};
+ghost use Rattle.insert.specs.Insert.{insertSpan, inserted};
 ghost use Rattle.desk.specs.Draft.{begun, refused, made, answered, spanMade, nodeMade, withSpan, lineOf, withLine};
 
 // The lines that a draft has room for. A line is where a strip or a bus ends.
 pub const LINES: usize = 15;
 
 // In samples. A new node fades in from 0.
-const FADE: u32 = 4_800;
+pub const FADE: u32 = 4_800;
 
 pub struct Draft {
     pub plan: Plan,
@@ -148,6 +151,38 @@ pub fn step(draft: Draft, record: &[u32], steps: &mut [u32]) -> Draft
     let grown = PlanBuilder::step(draft.plan, record, steps);
     let answer = grown.answer;
     answered(draft, grown.plan, answer)
+}
+
+// An insert, with the ramp that it names: the draft's span is what the strip goes on with.
+pub fn insert(
+    draft: Draft,
+    insert: InsertPoint,
+    indices: &mut [u32],
+    coefficients: &mut [f32],
+    floats: &mut [f32],
+    words: &mut [u32],
+    steps: &mut [u32],
+) -> Draft
+    ensures draft { λ r. ⌜ r ≡ made draft (spanMade draft (inserted unitLimits (builderState (draft .plan) (now (indices .entry)) (now (coefficients .entry)) (now (floats .entry)) (now (words .entry)) (now (steps .entry))) insert .plan) (insertSpan unitLimits (builderState (draft .plan) (now (indices .entry)) (now (coefficients .entry)) (now (floats .entry)) (now (words .entry)) (now (steps .entry))) insert)) draft ⌝ }
+    ensures indices { λ r. ⌜ now (indices .exit) ≡ made draft (inserted unitLimits (builderState (draft .plan) (now (indices .entry)) (now (coefficients .entry)) (now (floats .entry)) (now (words .entry)) (now (steps .entry))) insert .indices) (now (indices .entry)) ⌝ }
+    ensures coefficients { λ r. ⌜ now (coefficients .exit) ≡ made draft (inserted unitLimits (builderState (draft .plan) (now (indices .entry)) (now (coefficients .entry)) (now (floats .entry)) (now (words .entry)) (now (steps .entry))) insert .coefficients) (now (coefficients .entry)) ⌝ }
+    ensures floats { λ r. ⌜ now (floats .exit) ≡ made draft (inserted unitLimits (builderState (draft .plan) (now (indices .entry)) (now (coefficients .entry)) (now (floats .entry)) (now (words .entry)) (now (steps .entry))) insert .floats) (now (floats .entry)) ⌝ }
+    ensures words { λ r. ⌜ now (words .exit) ≡ made draft (inserted unitLimits (builderState (draft .plan) (now (indices .entry)) (now (coefficients .entry)) (now (floats .entry)) (now (words .entry)) (now (steps .entry))) insert .words) (now (words .entry)) ⌝ }
+    ensures steps { λ r. ⌜ now (steps .exit) ≡ made draft (inserted unitLimits (builderState (draft .plan) (now (indices .entry)) (now (coefficients .entry)) (now (floats .entry)) (now (words .entry)) (now (steps .entry))) insert .steps) (now (steps .entry)) ⌝ }
+{
+    if refused(draft) {
+        return draft;
+    }
+    let made = insert_calls::insert(
+        draft.plan,
+        insert,
+        indices,
+        coefficients,
+        floats,
+        words,
+        steps,
+    );
+    spanned(draft, made)
 }
 
 // The buffers are zeroed, and the plan is ready to run.

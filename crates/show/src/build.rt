@@ -8,11 +8,12 @@ use desk::draft::Draft;
 fn lines(
     draft: Draft,
     indices: &mut [u32],
+    coefficients: &mut [f32],
     floats: &mut [f32],
     words: &mut [u32],
     steps: &mut [u32],
 ) -> Draft {
-    let draft = strips::all(draft, indices, floats, words, steps);
+    let draft = strips::all(draft, indices, coefficients, floats, words, steps);
     buses::all(draft, indices, steps)
 }
 
@@ -38,7 +39,8 @@ pub fn laid_out(
     steps: &mut [u32],
     buffers: &mut [f32],
 ) -> Draft {
-    let draft = lines(draft::new(signals::BLOCK), indices, floats, words, steps);
+    let draft = draft::new(signals::BLOCK);
+    let draft = lines(draft, indices, coefficients, floats, words, steps);
     let draft = routes(draft, indices, coefficients, floats, words, steps);
     let draft = buses::outputs(draft, steps);
     draft::finish(draft, buffers)

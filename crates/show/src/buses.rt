@@ -28,7 +28,7 @@ fn cleared(draft: Draft, slot: usize, indices: &mut [u32], steps: &mut [u32]) ->
 // The buses of sends, before any send.
 pub fn all(draft: Draft, indices: &mut [u32], steps: &mut [u32]) -> Draft {
     let mut draft = draft;
-    for slot in 0..layout::SLOTS {
+    for slot in 0..layout::BUSES {
         draft = cleared(draft, slot, indices, steps);
     }
     draft
@@ -139,7 +139,7 @@ pub fn folds(
     steps: &mut [u32],
 ) -> Draft {
     let mut draft = draft;
-    for slot in 0..layout::SLOTS {
+    for slot in 0..layout::BUSES {
         draft = folded(draft, slot, indices, floats, words, steps);
     }
     draft
@@ -148,7 +148,7 @@ pub fn folds(
 // Each bus to its slot.
 pub fn outputs(draft: Draft, steps: &mut [u32]) -> Draft {
     let mut draft = draft;
-    for slot in 0..layout::SLOTS {
+    for slot in 0..layout::BUSES {
         let src = draft::line_of(draft, layout::bus(slot));
         draft = draft::step(
             draft,

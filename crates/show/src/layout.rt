@@ -1,11 +1,14 @@
-// The default layout, as tables: six inputs, each with a strip, and nine outputs, each with a bus. A line is where a strip or a bus ends: the
-// strips are lines 0 to 5, and the bus of slot s is line 6 + s.
+// The default layout, as tables: six inputs, each with a strip, nine outputs, each with a bus, and an insert on the band's strip, with an input and an
+// output of its own. A line is where a strip or a bus ends: the strips are lines 0 to 5, and the bus of slot s is line 6 + s.
 use format::Format;
 ghost use Prim.Native.Nat.{_<_};
 
 pub const STRIPS: usize = 6;
 
-pub const SLOTS: usize = 9;
+// The slots that have a bus. The one behind them is the insert's.
+pub const BUSES: usize = 9;
+
+pub const SLOTS: usize = 10;
 
 pub const SENDS: usize = 23;
 
@@ -41,10 +44,18 @@ pub const CREW: usize = 7;
 
 pub const LOUNGE: usize = 8;
 
+pub const BAND_SEND: usize = 9;
+
+// The input that comes back to the band's insert.
+pub const BAND_RETURN: u32 = 70;
+
 // Where a bus is made of sends, and is no fold of another slot's bus.
 pub const OF_SENDS: usize = SLOTS;
 
-// The ids of the nodes that settings change: three levels, the singer's panner, the band's width.
+// Where a slot has no bus: the insert writes it.
+pub const OF_INSERT: usize = SLOTS + 1;
+
+// The ids of the nodes that settings change: three levels, the singer's panner, the band's width, the dry signal and the return of its insert.
 pub const NARRATOR_LEVEL: u32 = 100;
 
 pub const FILM_IN_HALL: u32 = 203;
@@ -54,6 +65,10 @@ pub const TALKBACK_IN_HALL: u32 = 205;
 pub const PAN: u32 = 111;
 
 pub const WIDTH: u32 = 112;
+
+pub const DRY: u32 = 122;
+
+pub const WET: u32 = 123;
 
 // As many gains as the widest strip has channels.
 pub const STRIP_GAINS: usize = 6;
@@ -86,6 +101,7 @@ const SLOT_TABLE: [Slot; SLOTS] = [
     Slot(Format::STEREO, OF_SENDS, 0),
     Slot(Format::MONO, OF_SENDS, 0),
     Slot(Format::LCR, OF_SENDS, 0),
+    Slot(Format::STEREO, OF_INSERT, 0),
 ];
 
 // The talkback is closed in the hall until a setting opens it. The cue sheet lists it all the same.
@@ -138,9 +154,19 @@ pub fn send_at(i: usize) -> Send {
     SEND_TABLE[row(i, SENDS)]
 }
 
+// The slot of the plan's Output i. The insert's stands before those of the buses.
+pub fn output_slot(i: usize) -> usize
+    ensures { λ r. ⌜ r < 10 ⌝ }
+{
+    if i == 0 {
+        return BAND_SEND;
+    }
+    row(i - 1, BUSES)
+}
+
 // The line of a slot's bus.
 pub fn bus(slot: usize) -> usize {
-    STRIPS + row(slot, SLOTS)
+    STRIPS + row(slot, BUSES)
 }
 
 pub fn line_format(line: usize) -> u32 {

@@ -1,7 +1,8 @@
-// The default show of a theatre unit: a layout of nine outputs, four seconds of it, and its cue sheet. A call that is refused, and is not shown
+// The default show of a theatre unit: a layout of ten outputs, four seconds of it, and its cue sheet. A call that is refused, and is not shown
 // as such, ends the program with a line that says so.
 mod build;
 mod buses;
+mod inserts;
 mod layout;
 mod names;
 mod overview;

@@ -32,6 +32,7 @@ pub fn slot(number: usize, width: usize) {
         layout::LOOP => text::left(b"hearing loop", width),
         layout::RECORDING => text::left(b"recording", width),
         layout::CREW => text::left(b"crew", width),
-        _ => text::left(b"lounge", width),
+        layout::LOUNGE => text::left(b"lounge", width),
+        _ => text::left(b"band send", width),
     }
 }

@@ -1,4 +1,5 @@
 // The layout in words, from its tables.
+use crate::inserts;
 use crate::layout;
 use crate::layout::Send;
 use crate::layout::Slot;
@@ -14,7 +15,7 @@ fn input(line: usize) {
     names::format(format, 0);
     match line {
         layout::SINGER => text::put(b", with a panner"),
-        layout::BAND => text::put(b", with a width"),
+        layout::BAND => text::put(b", with an insert and a width"),
         _ => {}
     }
     text::put(b"\n");
@@ -49,11 +50,13 @@ fn output(slot: usize) {
     text::put(b"  ");
     names::slot(slot, 14);
     names::format(format, 8);
-    if from == layout::OF_SENDS {
-        sends(slot);
-    } else {
-        text::put(b"fold of ");
-        names::slot(from, 0);
+    match from {
+        layout::OF_SENDS => sends(slot),
+        layout::OF_INSERT => text::put(b"send of the insert on band"),
+        _ => {
+            text::put(b"fold of ");
+            names::slot(from, 0);
+        }
     }
     text::put(b"\n");
 }
@@ -67,7 +70,9 @@ fn outputs() {
 
 pub fn tables() {
     inputs();
+    inserts::input();
     outputs();
+    inserts::told();
 }
 
 pub fn counts(plan: Plan) {

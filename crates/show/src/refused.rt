@@ -101,7 +101,7 @@ fn short_run(
     if let Ran::Refused(r) = answer {
         line(
             from,
-            b"a run with an output area of 4,863 samples",
+            b"a run with an output area of 5,375 samples",
             r,
             before,
             after,

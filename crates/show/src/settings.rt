@@ -10,6 +10,8 @@ const SINGER_ACROSS: usize = 48_128;
 
 const BAND_WIDER: usize = 72_192;
 
+const BAND_BYPASSED: usize = 108_032;
+
 const TALKBACK_OPENED: usize = 120_064;
 
 const FILM_CLOSED: usize = 144_128;
@@ -27,6 +29,7 @@ fn told(from: usize) {
         NARRATOR_DOWN => line(from, b"narrator to 0.25 over 24,000 samples\n"),
         SINGER_ACROSS => line(from, b"singer from left to right over 48,000 samples\n"),
         BAND_WIDER => line(from, b"band to a width of 1.5 over 12,000 samples\n"),
+        BAND_BYPASSED => line(from, b"insert on band bypassed over 4,800 samples\n"),
         TALKBACK_OPENED => line(from, b"talkback opened in the hall over 100 samples\n"),
         FILM_CLOSED => line(from, b"film closed in the hall at once\n"),
         _ => {}
@@ -62,6 +65,14 @@ fn level(
     setting::set_param(nodes, id, &values, ramp, floats, words)
 }
 
+// The insert's bypass, as an operator sets it: the dry signal to 1, the return to 0.
+fn bypass(ramp: u32, nodes: usize, floats: &mut [f32], words: &mut [u32]) -> Answer {
+    match level(layout::DRY, 1.0, ramp, nodes, floats, words) {
+        Answer::Refused(r) => Answer::Refused(r),
+        Answer::Accepted => level(layout::WET, 0.0, ramp, nodes, floats, words),
+    }
+}
+
 // The setting before the block that starts at a sample, if it has one.
 pub fn before(from: usize, nodes: usize, floats: &mut [f32], words: &mut [u32]) -> Answer {
     told(from);
@@ -69,6 +80,7 @@ pub fn before(from: usize, nodes: usize, floats: &mut [f32], words: &mut [u32]) 
         NARRATOR_DOWN => level(layout::NARRATOR_LEVEL, 0.25, 24_000, nodes, floats, words),
         SINGER_ACROSS => pan(0.5, 48_000, nodes, floats, words),
         BAND_WIDER => width(1.5, 12_000, nodes, floats, words),
+        BAND_BYPASSED => bypass(4_800, nodes, floats, words),
         TALKBACK_OPENED => level(layout::TALKBACK_IN_HALL, 1.0, 100, nodes, floats, words),
         FILM_CLOSED => level(layout::FILM_IN_HALL, 0.0, 0, nodes, floats, words),
         _ => Answer::Accepted,

@@ -11,7 +11,7 @@ const AT: u32 = 168_192;
 
 // What the block from a sample on is lent of a directory whose last entry is the stand-in's. Requires the directory of all channels.
 pub fn directory_at(from: u32, directory: &[u32]) -> &[u32]
-    requires { ⌜ length (now directory) ≡ 56 ⌝ }
+    requires { ⌜ length (now directory) ≡ 64 ⌝ }
 {
     if from < AT {
         return &directory[0..inputs::DIRECTORY - 4];
@@ -35,7 +35,7 @@ fn told(from: u32, heard: bool) {
 // Its line behind its first block, and one behind each later block in which it is not heard. It is heard where the narrator's buffer, the first
 // of the plan, has its samples, the last of those lent. Requires the samples of all channels.
 pub fn line(from: u32, samples: &[f32], buffers: &[f32])
-    requires { ⌜ length (now samples) ≡ 3584 ⌝ }
+    requires { ⌜ length (now samples) ≡ 4096 ⌝ }
 {
     if from < AT {
         return;

@@ -1,4 +1,5 @@
-// The strips: an input each, its level, and the singer's panner and the band's width.
+// The strips: an input each, its level, the band's insert before it, and behind it the singer's panner and the band's width.
+use crate::inserts;
 use crate::layout;
 use crate::layout::Strip;
 use crate::steps;
@@ -59,17 +60,19 @@ fn placed(
     }
 }
 
-// An input and its level.
+// An input, its insert and its level.
 fn input(
     draft: Draft,
     line: usize,
     indices: &mut [u32],
+    coefficients: &mut [f32],
     floats: &mut [f32],
     words: &mut [u32],
     steps: &mut [u32],
 ) -> Draft {
     let Strip(id, input, format, _, gain) = layout::strip_at(line);
     let draft = steps::patched(draft, input, format, indices, steps);
+    let draft = inserts::made(draft, line, indices, coefficients, floats, words, steps);
     steps::level(draft, id, gain, indices, floats, words, steps)
 }
 
@@ -77,11 +80,12 @@ fn strip(
     draft: Draft,
     line: usize,
     indices: &mut [u32],
+    coefficients: &mut [f32],
     floats: &mut [f32],
     words: &mut [u32],
     steps: &mut [u32],
 ) -> Draft {
-    let draft = input(draft, line, indices, floats, words, steps);
+    let draft = input(draft, line, indices, coefficients, floats, words, steps);
     let draft = placed(draft, line, indices, floats, words, steps);
     draft::with_line(draft, line, draft.span)
 }
@@ -89,13 +93,14 @@ fn strip(
 pub fn all(
     draft: Draft,
     indices: &mut [u32],
+    coefficients: &mut [f32],
     floats: &mut [f32],
     words: &mut [u32],
     steps: &mut [u32],
 ) -> Draft {
     let mut draft = draft;
     for line in 0..layout::STRIPS {
-        draft = strip(draft, line, indices, floats, words, steps);
+        draft = strip(draft, line, indices, coefficients, floats, words, steps);
     }
     draft
 }

@@ -18,7 +18,7 @@ signal pitch k = sub binary32 (div binary32 (ofInt binary32 (pos (triangle (pitc
 
 -- the pitch of each channel, in 65,536ths of a period a sample
 abbrev pub pitches : List ℕ
-pitches = 300 ∷ 412 ∷ 523 ∷ 524 ∷ 601 ∷ 602 ∷ 603 ∷ 77 ∷ 655 ∷ 656 ∷ 713 ∷ 717 ∷ 1201 ∷ 309 ∷ []
+pitches = 300 ∷ 412 ∷ 523 ∷ 524 ∷ 601 ∷ 602 ∷ 603 ∷ 77 ∷ 655 ∷ 656 ∷ 713 ∷ 717 ∷ 1201 ∷ 1046 ∷ 1048 ∷ 309 ∷ []
 
 -- an area with n samples of a channel from sample `from` on, stored from a place on
 unfoldable pub filled : (pitch from at : ℕ) → ℕ → List Float → List Float
@@ -34,10 +34,10 @@ played block from (suc c) area = filled (getD pitches c 0) from (c * block) bloc
 
 -- the input of each channel, and the channel's number there; the last is a stand-in for the first
 abbrev pub inputs : List ℕ
-inputs = 3 ∷ 4 ∷ 10 ∷ 10 ∷ 20 ∷ 20 ∷ 20 ∷ 20 ∷ 20 ∷ 20 ∷ 31 ∷ 31 ∷ 60 ∷ 3 ∷ []
+inputs = 3 ∷ 4 ∷ 10 ∷ 10 ∷ 20 ∷ 20 ∷ 20 ∷ 20 ∷ 20 ∷ 20 ∷ 31 ∷ 31 ∷ 60 ∷ 70 ∷ 70 ∷ 3 ∷ []
 
 abbrev pub channels : List ℕ
-channels = 0 ∷ 0 ∷ 0 ∷ 1 ∷ 0 ∷ 1 ∷ 2 ∷ 3 ∷ 4 ∷ 5 ∷ 0 ∷ 1 ∷ 0 ∷ 0 ∷ []
+channels = 0 ∷ 0 ∷ 0 ∷ 1 ∷ 0 ∷ 1 ∷ 2 ∷ 3 ∷ 4 ∷ 5 ∷ 0 ∷ 1 ∷ 0 ∷ 0 ∷ 1 ∷ 0 ∷ []
 
 -- input, channel, start and length
 abbrev pub entry : (block : ℕ) → ℕ → List ℕ

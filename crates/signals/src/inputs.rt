@@ -6,15 +6,15 @@ ghost use lib.ListN.{length};
 ghost use Rattle.signals.specs.Signals.{triangle, signal, filled, played, entered};
 
 // Of all inputs, and a stand-in for the first.
-pub const CHANNELS: usize = 14;
+pub const CHANNELS: usize = 16;
 
 pub const SAMPLES: usize = CHANNELS * BLOCK;
 
 pub const DIRECTORY: usize = CHANNELS * 4;
 
-const INPUT: [u32; CHANNELS] = [3, 4, 10, 10, 20, 20, 20, 20, 20, 20, 31, 31, 60, 3];
+const INPUT: [u32; CHANNELS] = [3, 4, 10, 10, 20, 20, 20, 20, 20, 20, 31, 31, 60, 70, 70, 3];
 
-const CHANNEL: [u32; CHANNELS] = [0, 0, 0, 1, 0, 1, 2, 3, 4, 5, 0, 1, 0, 0];
+const CHANNEL: [u32; CHANNELS] = [0, 0, 0, 1, 0, 1, 2, 3, 4, 5, 0, 1, 0, 0, 1, 0];
 
 // In 65,536ths of a period a sample.
 const PITCH: [u32; CHANNELS] = [
@@ -31,6 +31,8 @@ const PITCH: [u32; CHANNELS] = [
     713,
     717,
     1201,
+    1046,
+    1048,
     309,
 ];
 
@@ -66,8 +68,8 @@ fn fill(pitch: u32, from: u32, at: usize, samples: &mut [f32])
 
 // A block of every channel, one after the other. Requires room for them, and samples that a u32 counts.
 pub fn play(from: u32, samples: &mut [f32])
-    requires { ⌜ (from + 256 < 4294967296) × (length (now samples) ≡ 3584) ⌝ }
-    ensures { λ _. ⌜ now (samples .exit) ≡ played 256 from 14 (now (samples .entry)) ⌝ }
+    requires { ⌜ (from + 256 < 4294967296) × (length (now samples) ≡ 4096) ⌝ }
+    ensures { λ _. ⌜ now (samples .exit) ≡ played 256 from 16 (now (samples .entry)) ⌝ }
 {
     for c in 0..CHANNELS {
         fill(PITCH[c], from, c * BLOCK, samples);
@@ -76,8 +78,8 @@ pub fn play(from: u32, samples: &mut [f32])
 
 // The directory of such a block. Requires room for it.
 pub fn directory(entries: &mut [u32])
-    requires { ⌜ length (now entries) ≡ 56 ⌝ }
-    ensures { λ _. ⌜ now (entries .exit) ≡ entered 256 14 (now (entries .entry)) ⌝ }
+    requires { ⌜ length (now entries) ≡ 64 ⌝ }
+    ensures { λ _. ⌜ now (entries .exit) ≡ entered 256 16 (now (entries .entry)) ⌝ }
 {
     for c in 0..CHANNELS {
         let at = c * 4;

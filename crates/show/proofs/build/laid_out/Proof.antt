@@ -22,13 +22,14 @@ finish-requires c κs = search needs
 same-length : tie.Need-same-length
 same-length c =
     let a = c .before .before .before .before .before .before .before .before .before .before .before .before .before .before .before .before .before in
-    let b = a .before .before .before .before .before .before .before .before .before .before .before .before .before .before in
+    let b = a .before .before .before .before .before .before .before .before .before .before .before .before .before .before .before .before in
     omega (arith, a .indices2 .given, b .indices .given)
 
 same-length-2 : tie.Need-same-length-2
 same-length-2 c =
     let a = c .before .before .before .before .before .before .before .before .before .before .before .before .before .before .before in
-    omega (arith, a .coefficients .given)
+    let b = a .before .before .before .before .before .before .before .before .before .before .before .before .before .before .before .before in
+    omega (arith, a .coefficients2 .given, b .coefficients .given)
 
 same-length-3 : tie.Need-same-length-3
 same-length-3 c =

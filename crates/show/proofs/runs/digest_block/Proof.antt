@@ -1,4 +1,4 @@
--- `show::runs::digest_block` meets its contract. What is left of the slots falls with each turn, and a format has at most 12 channels. Assumes nothing.
+-- `show::runs::digest_block` meets its contract. What is left of the Outputs falls with each turn, and a format has at most 12 channels. Assumes nothing.
 use Prim.Native.Nat.{_-_, _≤_}
 use mathlib.Core.Path.{_≡_}
 use native.Mathlib.Omega.{arith}
@@ -9,13 +9,16 @@ use Rattle.show.proofs.runs.digest_block.Statement.{statement}
 use Rattle.show.proofs.runs.digest_block.Tie as tie
 
 abbrev Inv-loop : tie.InvT-loop
-Inv-loop output digests₀ at₀ slot₀ digests at slot = (slot ≤ 9) × (at ≤ length output) × (length digests ≡ length digests₀)
+Inv-loop output digests₀ at₀ i₀ digests at i = (i ≤ 10) × (at ≤ length output) × (length digests ≡ length digests₀)
 
 abbrev μ-loop : tie.MeasureT-loop
-μ-loop output digests₀ at₀ slot₀ digests at slot = 9 - slot
+μ-loop output digests₀ at₀ i₀ digests at i = 10 - i
 
 loop-holds : tie.Need-loop-holds Inv-loop μ-loop
 loop-holds c = search needs
+
+output-slot-requires : tie.Need-output-slot-requires Inv-loop μ-loop
+output-slot-requires c κs = search needs
 
 slot-at-requires : tie.Need-slot-at-requires Inv-loop μ-loop
 slot-at-requires c κs = search needs
@@ -62,8 +65,8 @@ mul-digests c = search needs
 slice-write-digests : tie.Need-slice-write-digests Inv-loop μ-loop
 slice-write-digests c = search needs
 
-add-slot : tie.Need-add-slot Inv-loop μ-loop
-add-slot c = search needs
+add-i : tie.Need-add-i Inv-loop μ-loop
+add-i c = search needs
 
 loop-less : tie.Need-loop-less Inv-loop μ-loop
 loop-less c = search needs
@@ -84,6 +87,7 @@ digest-block-spec =
     Inv-loop
     μ-loop
     loop-holds
+    output-slot-requires
     slot-at-requires
     channels-requires
     mul-end
@@ -99,7 +103,7 @@ digest-block-spec =
     with-frames-requires
     mul-digests
     slice-write-digests
-    add-slot
+    add-i
     loop-less
     loop-again
     same-length-2

@@ -7,10 +7,10 @@ use Rattle.show.proofs.strips.all.Statement.{statement}
 use Rattle.show.proofs.strips.all.Tie as tie
 
 abbrev Inv-loop : tie.InvT-loop
-Inv-loop indices₀ floats₀ words₀ steps₀ draft₀ line₀ indices floats words steps draft line = (line ≤ 6) × (length indices ≡ length indices₀) × (length floats ≡ length floats₀) × (length words ≡ length words₀) × (length steps ≡ length steps₀)
+Inv-loop indices₀ coefficients₀ floats₀ words₀ steps₀ draft₀ line₀ indices coefficients floats words steps draft line = (line ≤ 6) × (length indices ≡ length indices₀) × (length coefficients ≡ length coefficients₀) × (length floats ≡ length floats₀) × (length words ≡ length words₀) × (length steps ≡ length steps₀)
 
 abbrev μ-loop : tie.MeasureT-loop
-μ-loop indices₀ floats₀ words₀ steps₀ draft₀ line₀ indices floats words steps draft line = 6 - line
+μ-loop indices₀ coefficients₀ floats₀ words₀ steps₀ draft₀ line₀ indices coefficients floats words steps draft line = 6 - line
 
 loop-holds : tie.Need-loop-holds Inv-loop μ-loop
 loop-holds c = search needs
@@ -39,6 +39,9 @@ same-length-3 c = search needs
 same-length-4 : tie.Need-same-length-4 Inv-loop μ-loop
 same-length-4 c = search needs
 
+same-length-5 : tie.Need-same-length-5 Inv-loop μ-loop
+same-length-5 c = search needs
+
 returns : tie.Need-returns Inv-loop μ-loop
 returns c = search needs
 
@@ -57,4 +60,5 @@ all-spec =
     same-length-2
     same-length-3
     same-length-4
+    same-length-5
     returns)

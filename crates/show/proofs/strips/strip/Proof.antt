@@ -16,23 +16,31 @@ with-line-requires c κs = search needs
 same-length : tie.Need-same-length
 same-length c =
     let a = c .before .before .before .before .before .before .before .before in
-    let b = a .before .before .before .before .before .before .before .before .before .before .before .before .before in
+    let b = a .before .before .before .before .before .before .before .before .before .before .before .before .before .before .before in
     omega (arith, a .indices2 .given, b .indices .given)
 
 same-length-2 : tie.Need-same-length-2
 same-length-2 c =
+    let a = c .before .before .before .before .before .before .before .before .before .before .before .before .before .before .before .before .before .before .before .before .before in
+    omega (arith, a .coefficients .given)
+
+same-length-3 : tie.Need-same-length-3
+same-length-3 c =
     let a = c .before .before .before .before .before .before in
     let b = a .before .before .before .before .before .before .before .before .before .before .before .before .before in
     omega (arith, a .floats2 .given, b .floats .given)
 
-same-length-3 : tie.Need-same-length-3
-same-length-3 c =
+same-length-4 : tie.Need-same-length-4
+same-length-4 c =
     let a = c .before .before .before .before in
     let b = a .before .before .before .before .before .before .before .before .before .before .before .before .before in
     omega (arith, a .words2 .given, b .words .given)
 
-same-length-4 : tie.Need-same-length-4
-same-length-4 c = search needs
+same-length-5 : tie.Need-same-length-5
+same-length-5 c =
+    let a = c .before .before in
+    let b = a .before .before .before .before .before .before .before .before .before .before .before .before .before in
+    omega (arith, a .steps2 .given, b .steps .given)
 
 returns : tie.Need-returns
 returns c = search needs
@@ -48,4 +56,5 @@ strip-spec =
     same-length-2
     same-length-3
     same-length-4
+    same-length-5
     returns)

@@ -12,10 +12,10 @@ use Rattle.signals.proofs.inputs.directory.Statement.{statement}
 use Rattle.signals.proofs.inputs.directory.Tie as tie
 
 abbrev Inv-loop : tie.InvT-loop
-Inv-loop entries₀ c₀ entries c = (c ≤ 14) × (length entries ≡ length entries₀) × (entries ≡ entered 256 c entries₀)
+Inv-loop entries₀ c₀ entries c = (c ≤ 16) × (length entries ≡ length entries₀) × (entries ≡ entered 256 c entries₀)
 
 abbrev μ-loop : tie.MeasureT-loop
-μ-loop entries₀ c₀ entries c = 14 - c
+μ-loop entries₀ c₀ entries c = 16 - c
 
 -- four stores, one after the other
 stored : (l : List ℕ) (at : ℕ) (a b c d : ℕ) → set (set (set (set l at a) (at + 1) b) (at + 2) c) (at + 3) d ≡ sets l at (a ∷ b ∷ c ∷ d ∷ [])
@@ -100,7 +100,7 @@ same-length c = search needs
 returns : tie.Need-returns Inv-loop μ-loop
 returns c =
     let a = c .before .before .args in
-    let e : c .before .loop .c ≡ 14 = omega arith in
+    let e : c .before .loop .c ≡ 16 = omega arith in
     c .before .loop .inv .2 ∙ ap (λ (n : ℕ). entered 256 n (a .entries .now)) e
 
 pub directory-spec : {M : Type 1} → statement M

@@ -11,10 +11,10 @@ use Rattle.signals.proofs.inputs.play.Statement.{statement}
 use Rattle.signals.proofs.inputs.play.Tie as tie
 
 abbrev Inv-loop : tie.InvT-loop
-Inv-loop from samples₀ c₀ samples c = (c ≤ 14) × (samples ≡ played 256 from c samples₀)
+Inv-loop from samples₀ c₀ samples c = (c ≤ 16) × (samples ≡ played 256 from c samples₀)
 
 abbrev μ-loop : tie.MeasureT-loop
-μ-loop from samples₀ c₀ samples c = 14 - c
+μ-loop from samples₀ c₀ samples c = 16 - c
 
 kept : (c : tie.At-loop Inv-loop μ-loop) → length (c .loop .samples) ≡ length (c .before .before .args .samples .now)
 kept c =
@@ -56,7 +56,7 @@ same-length c = kept (c .before)
 returns : tie.Need-returns Inv-loop μ-loop
 returns c =
     let a = c .before .before .before .args in
-    let e : c .before .loop .c ≡ 14 = omega arith in
+    let e : c .before .loop .c ≡ 16 = omega arith in
     c .before .loop .inv .1 ∙ ap (λ (n : ℕ). played 256 (a .from) n (a .samples .now)) e
 
 pub play-spec : {M : Type 1} → statement M
