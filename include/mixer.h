@@ -15,6 +15,7 @@
  * - a pointer is not null where its length is above 0;
  * - an area that a call writes (a pointer without const) overlaps no other area of that call;
  * - no other thread writes an area of a call while it runs, or reads one that it writes;
+ * - a bool in a struct is true or false and no other byte, also where it does not matter;
  * - the thread's floating-point state is the default one: round to nearest, no flush-to-zero, no denormals-are-zero, exceptions masked. With
  *   flush-to-zero on, as audio hosts have it, a sample of 1e-38 times a gain of 0.1 is 0 and not the float with the bits 000ae398; with upward
  *   rounding bits differ; with exceptions unmasked mixer_balance_gains(0.3) can end the program (tests/floats.c);
@@ -197,7 +198,7 @@ typedef struct {
 
 /* What comes back to an insert: an input and its first channel, both counted from 1, so that 1 and 1 are input 0 and channel 0 of a directory, at a
  * linear gain. At bypass the dry signal is heard in its place; the return is still in the sum, at 0, so that an infinity or a NaN that comes back is heard
- * as a NaN. */
+ * as a NaN; likewise one of the dry signal where the insert is not at bypass. */
 typedef struct {
     uint32_t input;
     uint32_t channel;
@@ -218,14 +219,15 @@ typedef struct {
     mixer_insert_return back;
 } mixer_insert_point;
 
-/* An insert, all of it or nothing. Of n channels of its format it makes a Gain to n fresh buffers and their Output; with a return also n fresh buffers with
- * a Patch each, the return Gain, the dry Gain (from src) and the wet Gain (from the return), a Clear of the insert's output, n * n coefficients of 1 and 0,
- * and two Sends, dry and wet, into the output. That is n buffers and index entries, a node, and 2 steps of 10 words; with a return 6 * n buffers and index
- * entries, n * n coefficients, 6 nodes, and n + 8 steps of 4 * n + 47 words. Replies with the span that the strip goes on with: src, or with a return the
- * output's. The nodes can be set by their ids as any other: all n values of dry to 1 and of wet to 0 is bypass. Of a src shorter than n the channels past it
- * are not written, and the plan is not clean. The plan check finds as 4 a slot above 31 (at the insert's second step), a return input above 256 (its third)
- * and, with a return, a src longer than n (its step n + 7). Refused: 16; with a return 18; 4, a src past the index list as the plan counts it; then for the
- * whole insert 5, 2, 8 (an id that another node or another of its own nodes has), 10. */
+/* An insert, all of it or nothing. Of n channels of its format it makes a Gain to n fresh buffers and their Output; with a return also n fresh buffers
+ * with a Patch each, the return Gain, the dry Gain (from src) and the wet Gain (from the return), a Clear of the insert's output, n * n coefficients of
+ * 1 and 0, and two Sends, dry and wet, into the output. That is n buffers and index entries, a node, and 2 steps of 10 words; with a return 6 * n
+ * buffers and index entries, n * n coefficients, 6 nodes, and n + 8 steps of 4 * n + 47 words. Replies with the span that the strip goes on with: src,
+ * or with a return the output's. The nodes can be set by their ids as any other: all n values of dry to 1 and of wet to 0 is bypass. Of a src shorter
+ * than n the channels past it are not written, and where no earlier step wrote them the plan is not clean. The plan check finds as 4 a slot above 31
+ * (at the insert's second step), a return input above 256 (its third) and, with a return, a src longer than n (its step n + 7). Refused: 16; with a
+ * return 18; 4, a src past the index list as the plan counts it; then for the whole insert 5, 2, 8 (an id that another node or another of its own nodes
+ * has), 10. */
 mixer_span_reply mixer_insert(mixer_plan plan, mixer_insert_point insert, uint32_t *indices, size_t indices_len, float *coefficients,
                               size_t coefficients_len, float *node_floats, size_t node_floats_len, uint32_t *node_words,
                               size_t node_words_len, uint32_t *steps, size_t steps_len);

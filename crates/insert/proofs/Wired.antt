@@ -4,28 +4,27 @@ use Prim.Native.Nat.{ℕ, zero, suc, _+_, _-_, _*_, _≤_, min}
 use native.Mathlib.Omega.{arith}
 use mathlib.Core.Path.{_≡_, refl, sym, ap, _∙_, subst, transport}
 use mathlib.Core.Logic.{_↔_}
-use mathlib.Core.Bool.{Bool, true, false, _&&_, cond}
+use mathlib.Core.Bool.{Bool, true, false, cond}
 use mathlib.Core.List.{List, [], _∷_, _++_, map, append-assoc}
 use lib.Count.{ones, onesIn}
 use lib.Dec.{ltb}
 use lib.ListN.{length, replicate, length-set, length-replicate}
 use lib.Ieee.{Float}
 use borrow.Author.Tests.{le-ltb}
-use Rattle.refusal.specs.Numbers.{outsideTable, noFormat, badReturn}
-use Rattle.refusal.specs.Tests.{Test, test, NoneHolds}
+use Rattle.refusal.specs.Tests.{NoneHolds}
 use Rattle.refusal.specs.declared.Refusal.{Refusal}
 use Rattle.refusal.specs.declared.Answer.the-variants.{Accepted, Refused}
 use Rattle.refusal.proofs.Laws.{outcome-accepted, outcome-refused, accepted-none, none-accepted}
 use Rattle.node.specs.Sizes.{maxValues, rampTooLong}
 use Rattle.node.specs.Nodes.{silence}
 use Rattle.format.specs.Floats.{one32}
-use Rattle.format.specs.Formats.{unknownFormat, channels}
+use Rattle.format.specs.Formats.{channels}
 use Rattle.format.proofs.Labels.{channels-le}
 use Rattle.plan.specs.declared.Plan.{Plan}
 use Rattle.plan.specs.declared.Limits.{Limits}
 use Rattle.plan.specs.declared.Span.{Span}
 use Rattle.plan.specs.Words.{clearMap, outputMap, span, stepOf, readAt}
-use Rattle.plan.specs.Check.{past, tooWide}
+use Rattle.plan.specs.Check.{tooWide}
 use Rattle.builder.specs.declared.Change.the-variants.{Add}
 use Rattle.builder.specs.declared.Growth.{Growth}
 use Rattle.builder.specs.Growth.{grown, buffersGrowth, nodeGrowth, stepGrowth}
@@ -35,7 +34,7 @@ use Rattle.builder.specs.Sums.{sum, growthOfAll, idsOf, lengths, FitsAsOne, Goo
 use Rattle.builder.proofs.Accepted.{really-grown, all-accepted, accepted-fit}
 use Rattle.insert.specs.declared.InsertPoint.{InsertPoint}
 use Rattle.insert.specs.Wiring.{gainCalls, patches, sendCalls, diagonal, identity, dryGain, wetGain, raw, ret, dry, wet, out, weights, dryWeights, switchCalls, outCalls, sumCalls, sentCalls, returnCalls, insertCalls}
-use Rattle.insert.specs.Insert.{insertGrowth, insertIds, returnBad, insertTests, insertAnswer, answerTo, inserted}
+use Rattle.insert.specs.Insert.{insertGrowth, insertIds, insertFirst, insertTests, insertAnswer, answerTo, inserted}
 
 -- each node of a list of calls has this ramp
 abbrev pub RampIs : ℕ → List BuilderCall → Type 0
@@ -51,7 +50,7 @@ length-diagonal : (n k : ℕ) → length (diagonal n k) ≡ n * n
 length-diagonal n zero = length-replicate (n * n) silence
 length-diagonal n (suc k) = length-set (diagonal n k) (k * n + k) one32 ∙ length-diagonal n k
 
-pub length-identity : (n : ℕ) → length (identity n) ≡ n * n
+length-identity : (n : ℕ) → length (identity n) ≡ n * n
 length-identity n = length-diagonal n n
 
 -- ---- the patches, in front of other calls
@@ -236,10 +235,10 @@ module _ (p : Plan) (i : InsertPoint) where
     return-good false = tt
     return-good true = (patchedGood then switchGood then outGood then sumGood) .good
 
-    pub insert-good : AllGood (insertCalls p i)
+    insert-good : AllGood (insertCalls p i)
     insert-good = (sentGood then record { calls = cond (i .returns) (returnCalls p i) []; good = return-good (i .returns) }) .good
 
-  pub good-ramp : AllGood (insertCalls p i) → rampTooLong (i .ramp) ≡ false
+  good-ramp : AllGood (insertCalls p i) → rampTooLong (i .ramp) ≡ false
   good-ramp g = g .0 .1
 
 -- ---- its answer
@@ -251,20 +250,12 @@ module _ (l : Limits) (s : BuilderState) (i : InsertPoint) where
   abbrev growth : Growth
   growth = insertGrowth (i .returns) (channels (i .format))
 
-  -- the tests 16, 18 and 4, which no single call asks
-  abbrev pub firstTests : List Test
-  firstTests =
-      test noFormat (unknownFormat (i .format))
-      ∷ test badReturn (i .returns && returnBad (channels (i .format)) (i .back))
-      ∷ test outsideTable (past (s .plan .indices) (i .src))
-      ∷ []
-
   -- the calls fit as one where the insert's growth and ids do
   fits : FitsAsOne l s growth (insertIds (i .returns) (i .ids)) ≡ FitsAsOne l s (growthOfAll calls) (idsOf calls)
   fits = λ j. FitsAsOne l s (sym (insert-grows (s .plan) i) j) (sym (insert-ids (s .plan) i) j)
 
   -- Given that none of 16, 18 and 4 holds, an insert is accepted exactly where every single call is.
-  pub insert-exactly : NoneHolds firstTests → (answerTo l s i ≡ Accepted) ↔ (accepted s (map (asked l) calls) ≡ calls)
+  pub insert-exactly : NoneHolds (insertFirst (s .plan) i) → (answerTo l s i ≡ Accepted) ↔ (accepted s (map (asked l) calls) ≡ calls)
   unfolding insertAnswer
   insert-exactly own = (
     λ e.

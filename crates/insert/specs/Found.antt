@@ -12,7 +12,8 @@ use Rattle.plan.specs.Areas.{shorter}
 use Rattle.insert.specs.declared.InsertPoint.{InsertPoint}
 
 -- "a return input above 256, a slot above 31 or, with a return, a source span longer than the format's channels is found there as 4", at its place, of a
--- plan that had k steps before the insert; and first, where the buffers' area is short for the grown plan q, 2. The return input counts from 1.
+-- plan that had k steps before the insert; and first, where the buffers' area, of length `len`, is short for the
+-- grown plan q, 2. The return input counts from 1.
 abbrev pub foundTests : Plan → ℕ → InsertPoint → ℕ → List Test
 foundTests q k i len =
     test shortArea (shorter len (q .buffers) (q .block))

@@ -1,7 +1,7 @@
 -- The builder call for an insert: what it adds, its tests in their order, its answer, and the plan and areas that it leaves. Definitions only.
 use Prim.Native.Nat.{ℕ, _+_, _-_, _*_}
 use mathlib.Core.Bool.{Bool, _||_, _&&_, cond}
-use mathlib.Core.List.{List, [], _∷_, map}
+use mathlib.Core.List.{List, [], _∷_, _++_, map}
 use lib.Dec.{eqb, ltb}
 use Rattle.refusal.specs.Numbers.{outsideTable, idTaken, longRamp, noFormat, badReturn}
 use Rattle.refusal.specs.Tests.{Test, test, first, outcome}
@@ -41,7 +41,7 @@ insertIds returns ids = ids .send ∷ cond returns (ids .ret ∷ ids .dry ∷ id
 
 -- ---- the tests: 16; with a return 18; 4; and then, once for the whole insert, 5, 2, 8, 10
 
--- a number of a channel in four bytes
+-- the largest number of a channel that four bytes hold
 abbrev pub maxChannel : ℕ
 maxChannel = 4294967295
 
@@ -52,12 +52,16 @@ returnBad n b = eqb (b .input) 0 || eqb (b .channel) 0 || ltb maxChannel (b .cha
 abbrev pub insertOwn : Plan → InsertPoint → List ℕ → List Test
 insertOwn p i words = test idTaken (idsTaken words (p .nodes) (insertIds (i .returns) (i .ids))) ∷ test longRamp (rampTooLong (i .ramp)) ∷ []
 
-abbrev pub insertTests : Limits → Plan → InsertPoint → Lengths → List ℕ → List Test
-insertTests l p i lent words =
+-- those that no single call asks
+abbrev pub insertFirst : Plan → InsertPoint → List Test
+insertFirst p i =
     test noFormat (unknownFormat (i .format))
     ∷ test badReturn (i .returns && returnBad (channels (i .format)) (i .back))
     ∷ test outsideTable (past (p .indices) (i .src))
-    ∷ growthTests l p (insertGrowth (i .returns) (channels (i .format))) lent (insertOwn p i words)
+    ∷ []
+
+abbrev pub insertTests : Limits → Plan → InsertPoint → Lengths → List ℕ → List Test
+insertTests l p i lent words = insertFirst p i ++ growthTests l p (insertGrowth (i .returns) (channels (i .format))) lent (insertOwn p i words)
 
 unfoldable pub insertAnswer : Limits → Plan → InsertPoint → Lengths → List ℕ → Answer
 insertAnswer l p i lent words = first (insertTests l p i lent words) Accepted

@@ -11,7 +11,7 @@ use insert::InsertReturn;
 use node::Node;
 use plan::Limits;
 use plan::Plan;
-use plan::Span;
+use plan_steps::span_past;
 use refusal::Answer;
 use refusal::Refusal;
 ghost use mathlib.Core.Path.{_≡_};
@@ -19,7 +19,6 @@ ghost use Prim.Native.Nat.{_*_, _≤_};
 ghost use lib.ListN.{length, drop};
 ghost use Rattle.lists.specs.Entries.{has};
 ghost use Rattle.node.specs.Sizes.{nodeWords};
-ghost use Rattle.plan.specs.Check.{past};
 ghost use Rattle.builder.specs.Growth.{lengthsOf};
 ghost use Rattle.builder.specs.Sums.{idsTaken};
 ghost use Rattle.insert.specs.Insert.{insertGrowth, insertIds, returnBad, insertAnswer};
@@ -59,13 +58,6 @@ fn return_bad(n: usize, back: InsertReturn) -> bool
 {
     let last = back.channel as usize + n - 1;
     (back.input == 0) | (back.channel == 0) | (last > MAX_CHANNEL)
-}
-
-// A span that reaches past the first n entries; worked out without overflow.
-fn span_past(n: usize, span: Span) -> bool
-    ensures { λ r. ⌜ r ≡ past n span ⌝ }
-{
-    n < span.start as usize + span.len as usize
 }
 
 // An id that stands in a list from a place on.
@@ -114,7 +106,7 @@ fn insert_ids_taken(words: &[u32], n: usize, returns: bool, ids: InsertIds) -> b
     ids_taken(words, n, &one[..])
 }
 
-// The lengths of the lent areas, but for that of the node words, which are read.
+// The answer to an insert: 16; with a return 18; 4; then, of the whole, 5, 2, 8, 10. It is handed the lengths of the areas, and lent the node words, which it reads.
 pub fn insert_answer(
     limits: Limits,
     plan: Plan,

@@ -1,7 +1,7 @@
 -- The two ways out of the call, from its answer: what it hands back and leaves; and that an accepted insert has room for its numbers. Assumes nothing.
 use mathlib.Core.Path.{_≡_, refl, sym, ap, subst, _∙_}
 use mathlib.Core.Bool.{Bool, true, false, _||_, _&&_, cond}
-use mathlib.Core.List.{List, [], _++_, map}
+use mathlib.Core.List.{[], _++_, map}
 use Prim.Native.Nat.{ℕ, zero, suc, _+_, _-_, _*_, _≤_}
 use native.Mathlib.Omega.{arith}
 use lib.Dec.{eqb, ltb}
@@ -17,7 +17,7 @@ use Rattle.plan.specs.Limits.{unitLimits}
 use Rattle.builder.specs.declared.SpanAnswer.the-variants as spanned
 use Rattle.builder.specs.declared.Growth.{Growth}
 use Rattle.builder.specs.Growth.{over, growsOver}
-use Rattle.builder.specs.Built.{BuilderCall, asked, BuilderState, built}
+use Rattle.builder.specs.Built.{asked, BuilderState, built}
 use Rattle.builder.specs.Sums.{lengths}
 use Rattle.insert.specs.declared.InsertPoint.{InsertPoint}
 use Rattle.insert.specs.Wiring.{out, sentCalls, returnCalls, insertCalls, handedOn}

@@ -1,28 +1,27 @@
 -- The parts of an insert as code makes them: calls and then more calls, the first of alike values, the Patches turn by turn, and the identity fold turn by
 -- turn. Assumes nothing.
 use mathlib.Core.Path.{_≡_, refl, sym, ap, _∙_}
-use mathlib.Core.List.{List, [], _∷_, _++_}
+use mathlib.Core.List.{List, [], _∷_, _++_, map, map-append}
 use Prim.Native.Nat.{ℕ, zero, suc, _+_, _-_, _*_, _<_, _≤_}
 use native.Mathlib.Nat.{mul-le-mul, mul-le-mul-right, add-mul}
 use native.Mathlib.Numerals.{add-one}
 use native.Mathlib.Omega.{arith}
-use lib.ListN.{length, take, set, replicate}
+use lib.ListN.{take, set, replicate}
 use lib.Ieee.{Float}
-use Rattle.node.specs.Nodes.{silence}
 use Rattle.format.specs.Floats.{one32}
 use Rattle.plan.specs.Words.{patchMap}
 use Rattle.plan.specs.Limits.{unitLimits}
-use Rattle.builder.specs.Built.{BuilderCall, step, BuilderState, after}
+use Rattle.builder.specs.Built.{BuilderCall, step, asked, BuilderState, after, built}
+use Rattle.builder.proofs.Lists.{built-append}
 use Rattle.insert.specs.Wiring.{patches, diagonal}
 use Rattle.insert_calls.specs.Loops.{wired}
 
 -- ---- calls, and then more
-wired-append : (s : BuilderState) (xs ys : List BuilderCall) → wired s (xs ++ ys) ≡ wired (wired s xs) ys
-wired-append s [] ys = refl
-wired-append s (x ∷ xs) ys = wired-append (after unitLimits s x) xs ys
-
 pub wired-then : (s : BuilderState) (xs ys : List BuilderCall) {t u : BuilderState} → t ≡ wired s xs → u ≡ wired t ys → u ≡ wired s (xs ++ ys)
-wired-then s xs ys e f = f ∙ ap (λ (v : BuilderState). wired v ys) e ∙ sym (wired-append s xs ys)
+wired-then s xs ys e f =
+    f
+    ∙ ap (λ (v : BuilderState). wired v ys) e
+    ∙ sym (ap (built s) (map-append (asked unitLimits) xs ys) ∙ built-append s (map (asked unitLimits) xs) (map (asked unitLimits) ys))
 
 -- ---- the first n of more alike values
 pub take-alike : {A : Type 0} (x : A) (n m : ℕ) → n ≤ m → take n (replicate m x) ≡ replicate n x

@@ -7,15 +7,16 @@ use plan::Plan;
 use plan::Span;
 use plan::Step;
 ghost use mathlib.Core.Path.{_≡_};
-ghost use mathlib.Core.List.{List, [], _∷_};
+ghost use mathlib.Core.List.{List};
 ghost use Prim.Native.Nat.{ℕ, _+_, _*_, _≤_};
 ghost use lib.ListN.{length, take};
 ghost use lib.Ieee.{Float};
 ghost use Rattle.format.specs.Formats.{channels};
 ghost use Rattle.plan.specs.Limits.{unitLimits};
 ghost use Rattle.plan.specs.Words.{span};
-ghost use Rattle.builder.specs.Built.{coefficients, builderState};
-ghost use Rattle.insert.specs.Wiring.{gainCalls, patches, sendCalls, diagonal, identity, dryGain, wetGain, dryWeights, patchedCalls, switchCalls, outCalls, sumCalls, sentCalls};
+ghost use Rattle.builder.specs.Built.{builderState};
+ghost use Rattle.insert.specs.Wiring.{gainCalls, patches, sendCalls, identity, dryGain, wetGain, dryWeights, patchedCalls, switchCalls, outCalls, sumCalls, sentCalls};
+ghost use Rattle.insert.specs.Insert.{maxChannel};
 ghost use Rattle.insert_calls.specs.Loops.{wired, SendFits, ReturnFits};
 
 // The gains of a path that is heard, and of one that is not.
@@ -53,7 +54,7 @@ pub fn fresh(before: Plan, n: usize, k: usize) -> Span
     }
 }
 
-// A Gain with its own node, into fresh buffers. Requires at most 12.
+// A Gain with its own node, into fresh buffers. Requires at most 12 channels.
 fn add_gain(
     plan: Plan,
     id: u32,
@@ -88,9 +89,9 @@ fn add_gain(
     stepped.plan
 }
 
-// n channels of an input, from one on, each to a buffer. Requires channels and buffers that four bytes hold.
+// n channels of an input, from one on, each to a buffer. Requires channels and buffers whose numbers four bytes hold.
 fn add_patches(plan: Plan, input: u32, channel: u32, dst: u32, n: u32, steps: &mut [u32]) -> Plan
-    requires { ⌜ (channel + n ≤ 4294967295) × (dst + n ≤ 4294967295) ⌝ }
+    requires { ⌜ (channel + n ≤ maxChannel) × (dst + n ≤ maxChannel) ⌝ }
     ensures { λ r. ⌜ ((ix : List ℕ) (co fl : List Float) (wo : List ℕ) → builderState r ix co fl wo (now (steps .exit)) ≡ wired (builderState plan ix co fl wo (now (steps .entry))) (patches input channel dst n)) ⌝ }
 {
     let mut grown = plan;
@@ -136,11 +137,12 @@ fn add_send(
     stepped.plan
 }
 
-// The identity fold of n channels stands in the first n * n of its places. Requires at most 12.
+// A matrix of at most 12 by 12.
 struct Square {
     entries: [f32; 144],
 }
 
+// The identity fold of n channels, in the first n * n places. Requires at most 12.
 fn identity(n: usize) -> Square
     requires { ⌜ n ≤ 12 ⌝ }
     ensures { λ r. ⌜ (length (r .entries) ≡ 144) × (take (n * n) (r .entries) ≡ identity n) ⌝ }
@@ -319,13 +321,11 @@ fn dry_weights(before: Plan, insert: InsertPoint) -> Span
     let n = Format::channels(insert.format);
     let src = insert.src;
     let start = before.coefficients as u32;
+    let all = (n * n) as u32;
     if n < src.len as usize {
         return Span { start, len: 0 };
     }
-    Span {
-        start,
-        len: (n * n) as u32,
-    }
+    Span { start, len: all }
 }
 
 // The two Sends. Requires room for the insert.

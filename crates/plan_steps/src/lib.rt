@@ -15,7 +15,8 @@ ghost use Rattle.plan.specs.Check.{past, named, outside, used, firstOf, tooWide
 ghost use Rattle.plan.specs.Sound.{Within, IndexList};
 ghost use Rattle.plan.specs.Loops.{Ascending, spanBefore, channels};
 
-fn span_past(n: usize, span: Span) -> bool
+// A span past the end of a table of n entries.
+pub fn span_past(n: usize, span: Span) -> bool
     ensures { λ r. ⌜ r ≡ past n span ⌝ }
 {
     (span.start as usize) + (span.len as usize) > n

@@ -63,7 +63,7 @@ fn step(j: &mut Judge, g: &mut Gen, a: &mut Areas) -> Found {
     record(j, "step", status, a, reply.status, reply.plan)
 }
 
-/// An insert, with a source that ends past the index list, an id that is taken, a ramp that is too long, or areas that are too short.
+/// An insert with a format, a return, a source, an id or a ramp that is refused, or with areas that are too short.
 fn insert(j: &mut Judge, g: &mut Gen, a: &mut Areas) -> Found {
     let ids: Vec<u32> = a.words[..WORDS * a.plan.nodes].chunks(WORDS).map(|w| w[0]).collect();
     let mut i = g.point(a.plan.indices, &ids);

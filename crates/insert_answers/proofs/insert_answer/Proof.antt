@@ -17,9 +17,8 @@ use Rattle.plan.specs.Check.{past}
 use Rattle.builder.specs.declared.Change.the-variants.{Add}
 use Rattle.builder.specs.declared.Growth.{Growth}
 use Rattle.builder.specs.Growth.{Lengths, lengthsOf, limitTests, tooShort, growsPast}
-use Rattle.builder.specs.Sums.{idsTaken}
 use Rattle.builder.proofs.Limits.{limits-say}
-use Rattle.insert.specs.Insert.{insertGrowth, insertIds, returnBad}
+use Rattle.insert.specs.Insert.{insertGrowth, returnBad}
 use Rattle.insert.proofs.Answers.{insert-16, insert-18, insert-4, insert-5, insert-2, insert-8, insert-10, insert-passes-all}
 use borrow.Author.Needs.{needs}
 use Rattle.insert_answers.proofs.insert_answer.Statement.{statement}

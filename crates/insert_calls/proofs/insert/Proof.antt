@@ -2,7 +2,7 @@
 use mathlib.Core.Path.{_≡_, sym, ap, _∙_}
 use Prim.Native.Nat.{ℕ, _+_, _*_}
 use native.Mathlib.Omega.{arith}
-use Rattle.refusal.specs.declared.Answer.the-variants.{Accepted, Refused}
+use Rattle.refusal.specs.declared.Answer.the-variants.{Accepted}
 use Rattle.format.specs.Formats.{channels}
 use Rattle.plan.specs.Limits.{unitLimits}
 use Rattle.plan.specs.Words.{span}

@@ -1,9 +1,9 @@
 -- `insert_calls::wiring::add_out` meets its contract: fresh buffers, their Clear, and the identity fold. Assumes nothing.
-use mathlib.Core.Path.{_≡_, sym, ap, _∙_}
+use mathlib.Core.Path.{sym, ap, _∙_}
 use mathlib.Core.List.{List, [], _∷_}
 use Prim.Native.Nat.{ℕ, _*_}
 use native.Mathlib.Omega.{arith}
-use lib.ListN.{length, take}
+use lib.ListN.{take}
 use lib.Seq.{length-take-le}
 use Rattle.plan.specs.Limits.{unitLimits}
 use Rattle.plan.specs.Words.{clearMap}

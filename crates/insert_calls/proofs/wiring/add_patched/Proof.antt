@@ -1,7 +1,7 @@
 -- `insert_calls::wiring::add_patched` meets its contract: fresh buffers, their Patches, and the return gain. Assumes nothing.
-use mathlib.Core.Path.{_≡_, ap, _∙_}
+use mathlib.Core.Path.{ap, _∙_}
 use mathlib.Core.List.{[], _∷_}
-use Prim.Native.Nat.{_+_, _-_, _*_}
+use Prim.Native.Nat.{_+_, _-_}
 use native.Mathlib.Omega.{arith}
 use Rattle.plan.specs.Limits.{unitLimits}
 use Rattle.builder.specs.Built.{buffers, BuilderState, builderState}

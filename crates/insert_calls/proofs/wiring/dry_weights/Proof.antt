@@ -26,21 +26,21 @@ channels-requires c κs = search needs
 cast-start : tie.Need-cast-start
 cast-start c = search needs
 
+mul-all : tie.Need-mul-all
+mul-all c = omega (arith, square-below (c .before .before .channels .result) (few (c .before .before .before .args .before) (c .before .before .before .args .insert) (c .before .before .channels .ensures)))
+
+cast-all : tie.Need-cast-all
+cast-all c = omega (arith, square-below (c .before .before .channels .result) (few (c .before .before .before .args .before) (c .before .before .before .args .insert) (c .before .before .channels .ensures)))
+
 cast-if1 : tie.Need-cast-if1
 cast-if1 c = search needs
 
 returns : tie.Need-returns
 returns c = longer (c .before .before .before .before .before .args .before) (c .before .before .before .before .before .args .insert) (c .before .before .before .before .channels .ensures) (c .if1 .taken)
 
-mul-t6 : tie.Need-mul-t6
-mul-t6 c = omega (arith, square-below (c .before .before .before .before .channels .result) (few (c .before .before .before .before .before .args .before) (c .before .before .before .before .before .args .insert) (c .before .before .before .before .channels .ensures)))
-
-cast-t8 : tie.Need-cast-t8
-cast-t8 c = omega (arith, square-below (c .before .before .before .before .channels .result) (few (c .before .before .before .before .before .args .before) (c .before .before .before .before .before .args .insert) (c .before .before .before .before .channels .ensures)))
-
 returns-2 : tie.Need-returns-2
 returns-2 c = others (c .before .before .before .before .before .args .before) (c .before .before .before .before .before .args .insert) (c .before .before .before .before .channels .ensures) (c .if1 .left)
 
 pub dry-weights-spec : {M : Type 1} → statement M
 dry-weights-spec =
-    tie.close (tie.spec channels-requires cast-start cast-if1 returns mul-t6 cast-t8 returns-2)
+    tie.close (tie.spec channels-requires cast-start mul-all cast-all cast-if1 returns returns-2)

@@ -1,6 +1,6 @@
 -- `insert_calls::wiring::identity` meets its contract: at k the rows before k have their 1. Assumes nothing.
 use mathlib.Core.Path.{_≡_, refl, ap, _∙_}
-use Prim.Native.Nat.{ℕ, _*_, _-_, _≤_}
+use Prim.Native.Nat.{_*_, _-_, _≤_}
 use native.Mathlib.Omega.{arith}
 use lib.ListN.{length, take, length-set}
 use Rattle.node.specs.Nodes.{silence}
