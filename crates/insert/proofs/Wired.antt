@@ -278,7 +278,7 @@ module _ (l : Limits) (s : BuilderState) (i : InsertPoint) where
 
   -- all of its calls, or nothing
   pub inserted-all : answerTo l s i ≡ Accepted → inserted l s i ≡ built s (map (asked l) calls)
-  inserted-all e = outcome-accepted (answerTo l s i) (built s (map (asked l) calls)) (λ _. s) e
+  inserted-all e = outcome-accepted (answerTo l s i) (built s (map (asked l) calls)) _ e
 
   pub insert-refused : (r : Refusal) → answerTo l s i ≡ Refused r → inserted l s i ≡ s
   insert-refused r e = outcome-refused (answerTo l s i) (built s (map (asked l) calls)) (λ _. s) r e
