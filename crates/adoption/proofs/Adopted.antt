@@ -14,7 +14,7 @@ use Rattle.node.specs.declared.Node.{Node}
 use Rattle.node.specs.Sizes.{maxRamp}
 use Rattle.node.specs.Nodes.{Full, at, changed, atTarget, startRamp, stepOver, setNode}
 use Rattle.node.specs.Areas.{InRange}
-use Rattle.node.proofs.Kept.{full-set, id-set, len-set}
+use Rattle.node.proofs.Kept.{full-set, id-set, len-set, safe-set}
 use Rattle.node.proofs.Left.{left-set}
 use Rattle.node.proofs.Bad.{in-range-set}
 use Rattle.adoption.specs.Adoption.{adopted}
@@ -61,6 +61,9 @@ module _ (new old : Node) where
     pub adopted-len : adopted new old ramp .len ≡ new .len
     adopted-len = len-set before (new .target) ramp
 
+    pub adopted-safe : adopted new old ramp .safe ≡ new .safe
+    adopted-safe = safe-set before (new .target) ramp
+
     pub adopted-left : adopted new old ramp .left ≡ ramp
     adopted-left = left-set before (new .target) ramp
 
@@ -68,7 +71,7 @@ module _ (new old : Node) where
     adopted-full f g = full-set before (new .target) ramp (record { cur = g .cur; target = f .target; step = f .step })
 
     pub adopted-good : InRange new → ramp ≤ maxRamp → InRange (adopted new old ramp)
-    adopted-good g h = in-range-set before (new .target) ramp (record { len = g .len; left = g .left }) h
+    adopted-good g h = in-range-set before (new .target) ramp (record { len = g .len; left = g .left; safe = g .safe }) h
 
 -- ---- two pairs of one node, of which the later stands
 pub adopted-again : (new a b : Node) (ramp : ℕ) → adopted (adopted new a ramp) b ramp ≡ adopted new b ramp

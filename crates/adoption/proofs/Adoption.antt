@@ -38,7 +38,7 @@ module _ (new old : Lent) (pairs : List ℕ) (ramp : ℕ) where
       go Accepted e = rw (after-accepted e) (q (accepted-fit new old pairs ramp e))
       go (Refused r) e = rw (after-refused e) p
 
-  -- it keeps the areas' lengths and each node's id and len
+  -- it keeps the areas' lengths and each node's id, len and safe
   pub adoption-kept : Kept new after
   adoption-kept = of-call (Kept new) (kept-self new) (pairs-kept pairs)
 

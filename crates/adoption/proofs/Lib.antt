@@ -14,6 +14,8 @@ pub mod Turns
 pub mod Named
 -- what an adoption leaves, accepted or refused
 pub mod Adoption
+-- safe nodes, and what is the Rust's
+pub mod Safe
 -- adoptions by computation
 pub mod Examples
 -- runs after an adoption

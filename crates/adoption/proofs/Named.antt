@@ -7,7 +7,7 @@ use lib.Dec.{eqb}
 use borrow.Author.Tests.{eqb-true, eq-eqb}
 use Rattle.lists.proofs.Bools.{or-none}
 use Rattle.node.specs.declared.Node.{Node}
-use Rattle.adoption.specs.Adoption.{Lent, nodeIn, skipped, adopted, adoptedAt, stored, pairAdopted, pairsAdopted}
+use Rattle.adoption.specs.Adoption.{Lent, nodeIn, skipped, adopted, adoptedAt, stored, pairAdopted, pairsAdopted, pairsBy}
 use Rattle.adoption.specs.Fits.{Fit}
 use Rattle.adoption.proofs.Adopted.{adopted-again}
 use Rattle.adoption.proofs.Pairs.{Taken, taken-not, not-taken, pair-taken, of-pair, pair-fit}
@@ -28,9 +28,9 @@ lastOld new old i [] d = d
 lastOld new old i (n ∷ []) d = d
 lastOld new old i (n ∷ o ∷ pairs) d = lastOld new old i pairs (cond (names new old i n o) o d)
 
--- pairs skip by counts and lens alone, which stay
+-- pairs skip by counts, lens and safes alone, which stay
 skips-same : {start new : Lent} (old : Lent) → Kept start new → (n o : ℕ) → skipped new old n o ≡ skipped start old n o
-skips-same old k n o = rw (k .count, k .lens n)
+skips-same old k n o = rw (k .count, k .lens n, k .safes n)
 
 -- ---- one pair
 module _ {start old new : Lent} {ramp : ℕ} (i n o : ℕ) (f : Fit new old ramp) (k : Kept start new) where
@@ -59,7 +59,7 @@ module _ {start old new : Lent} {ramp : ℕ} (i n o : ℕ) (f : Fit new old ramp
 module _ {start old : Lent} {ramp : ℕ} (i : ℕ) where
   pub pairs-unnamed : (pairs : List ℕ) {new : Lent} → Fit new old ramp → Kept start new → named start old i pairs ≡ false
       → nodeIn (pairsAdopted old ramp pairs new) i ≡ nodeIn new i
-  unfolding pairsAdopted
+  unfolding pairsBy
   pairs-unnamed [] f k e = refl
   pairs-unnamed (n ∷ []) f k e = refl
   pairs-unnamed (n ∷ o ∷ pairs) f k e =
@@ -70,7 +70,7 @@ module _ {start old : Lent} {ramp : ℕ} (i : ℕ) where
   pairs-again : (first : Node) (pairs : List ℕ) {new : Lent} → Fit new old ramp → Kept start new → (d : ℕ)
       → nodeIn new i ≡ adopted first (nodeIn old d) ramp
       → nodeIn (pairsAdopted old ramp pairs new) i ≡ adopted first (nodeIn old (lastOld start old i pairs d)) ramp
-  unfolding pairsAdopted
+  unfolding pairsBy
   pairs-again first [] f k d e = e
   pairs-again first (n ∷ []) f k d e = e
   pairs-again first (n ∷ o ∷ pairs) {new} f k d e =
@@ -83,7 +83,7 @@ module _ {start old : Lent} {ramp : ℕ} (i : ℕ) where
 
   pub pairs-named : (pairs : List ℕ) {new : Lent} → Fit new old ramp → Kept start new → (d : ℕ) → named start old i pairs ≡ true
       → nodeIn (pairsAdopted old ramp pairs new) i ≡ adopted (nodeIn new i) (nodeIn old (lastOld start old i pairs d)) ramp
-  unfolding pairsAdopted
+  unfolding pairsBy
   pairs-named [] f k d e = absurd (false≢true e)
   pairs-named (n ∷ []) f k d e = absurd (false≢true e)
   pairs-named (n ∷ o ∷ pairs) {new} f k d e =

@@ -13,11 +13,11 @@ use borrow.Author.Tests.{le-leb, lt-leb, leb-false, eqb-true, eq-eqb, ne-eqb, no
 use Rattle.lists.proofs.Bools.{or-none}
 use Rattle.node.specs.declared.Node.{Node}
 use Rattle.node.specs.Nodes.{Full}
-use Rattle.node.specs.Areas.{Room, lenAt, storedFloats, storedWords, InRange}
+use Rattle.node.specs.Areas.{Room, lenAt, safeAt, storedFloats, storedWords, InRange}
 use Rattle.node.proofs.Kept.{full-load}
 use Rattle.node.proofs.Areas.{length-stored-floats, length-stored-words}
 use Rattle.node.proofs.Bad.{none-bad-at, none-bad-stored}
-use Rattle.adoption.specs.Adoption.{Lent, lent, nodeIn, skipped, adopted, adoptedAt, stored, pairAdopted, pairsAdopted}
+use Rattle.adoption.specs.Adoption.{Lent, lent, nodeIn, unmatched, safeIn, skipped, adopted, adoptedAt, stored, pairAdopted, pairsAdopted, pairBy, pairsBy}
 use Rattle.adoption.specs.Fits.{Fit}
 use Rattle.adoption.proofs.Adopted.{adopted-full, adopted-good}
 
@@ -32,6 +32,7 @@ pub record Taken (new old : Lent) (n o : ℕ) : Type 0 where
   pub here : n < new .count
   pub there : o < old .count
   pub lens : lenAt (new .words) n ≡ lenAt (old .words) o
+  pub not-safe : safeAt (new .words) n ≡ 0
 
 module _ (new old : Lent) (n o : ℕ) where
   pub skip-new : new .count ≤ n → skipped new old n o ≡ true
@@ -43,26 +44,38 @@ module _ (new old : Lent) (n o : ℕ) where
   pub skip-len : n < new .count → o < old .count → (lenAt (new .words) n ≡ lenAt (old .words) o → ⊥) → skipped new old n o ≡ true
   skip-len h k e = rw (lt-leb (new .count) n h, lt-leb (old .count) o k, ne-eqb (lenAt (new .words) n) (lenAt (old .words) o) e)
 
+  pub skip-safe : n < new .count → o < old .count → lenAt (new .words) n ≡ lenAt (old .words) o → (safeAt (new .words) n ≡ 0 → ⊥) → skipped new old n o ≡ true
+  skip-safe h k e s =
+      rw (lt-leb (new .count) n h, lt-leb (old .count) o k, eq-eqb (lenAt (new .words) n) (lenAt (old .words) o) e, ne-eqb (safeAt (new .words) n) 0 s)
+
   pub taken-not : Taken new old n o → skipped new old n o ≡ false
-  taken-not t = rw (lt-leb (new .count) n (t .here), lt-leb (old .count) o (t .there), eq-eqb (lenAt (new .words) n) (lenAt (old .words) o) (t .lens))
+  taken-not t =
+      rw (
+        lt-leb (new .count) n (t .here),
+        lt-leb (old .count) o (t .there),
+        eq-eqb (lenAt (new .words) n) (lenAt (old .words) o) (t .lens),
+        eq-eqb (safeAt (new .words) n) 0 (t .not-safe),
+      )
 
   pub not-taken : skipped new old n o ≡ false → Taken new old n o
   not-taken e =
-      let a = or-none (leb (new .count) n || leb (old .count) o) (not (eqb (lenAt (new .words) n) (lenAt (old .words) o))) e in
+      let s = or-none (unmatched new old n o) (safeIn new n) e in
+      let a = or-none (leb (new .count) n || leb (old .count) o) (not (eqb (lenAt (new .words) n) (lenAt (old .words) o))) (s .0) in
       let b = or-none (leb (new .count) n) (leb (old .count) o) (a .0) in
       record {
         here = leb-false (new .count) n (b .0);
         there = leb-false (old .count) o (b .1);
         lens = eqb-true _ _ (not-false (eqb (lenAt (new .words) n) (lenAt (old .words) o)) (a .1));
+        not-safe = eqb-true _ _ (not-false (eqb (safeAt (new .words) n) 0) (s .1));
       }
 
   module _ (ramp : ℕ) where
     pub pair-skipped : skipped new old n o ≡ true → pairAdopted old ramp n o new ≡ new
-    unfolding pairAdopted
+    unfolding pairBy
     pair-skipped e = rw e
 
     pub pair-taken : Taken new old n o → pairAdopted old ramp n o new ≡ stored new n (adoptedAt new old ramp n o)
-    unfolding pairAdopted
+    unfolding pairBy
     pair-taken t = rw (taken-not t)
 
     -- the areas that the code leaves where it skips the pair
@@ -120,14 +133,14 @@ pair-fit {new} {old} {ramp} n o f = of-pair new old n o ramp (λ (l : Lent). Fit
 -- ---- the list of pairs
 module _ (old : Lent) (ramp : ℕ) where
   pub pairs-none : (pairs : List ℕ) (new : Lent) → length pairs ≤ 1 → pairsAdopted old ramp pairs new ≡ new
-  unfolding pairsAdopted
+  unfolding pairsBy
   pairs-none [] new h = refl
   pairs-none (n ∷ []) new h = refl
   pairs-none (n ∷ o ∷ pairs) new h = absurd (not-suc-le-zero (le-of-suc-le-suc h))
 
   pub pairs-more : (pairs : List ℕ) (i : ℕ) (new : Lent) → i + 1 < length pairs
       → pairsAdopted old ramp (drop i pairs) new ≡ pairsAdopted old ramp (drop (i + 2) pairs) (pairAdopted old ramp (getD pairs i 0) (getD pairs (i + 1) 0) new)
-  unfolding pairsAdopted
+  unfolding pairsBy
   pairs-more pairs i new h =
       let a : drop i pairs ≡ getD pairs i 0 ∷ drop (suc i) pairs = drop-cons pairs i 0 (omega arith) in
       let b : drop (suc i) pairs ≡ getD pairs (suc i) 0 ∷ drop (suc (suc i)) pairs = drop-cons pairs (suc i) 0 (omega arith) in

@@ -12,7 +12,7 @@ use Rattle.refusal.specs.declared.Answer.the-variants.{Accepted}
 use Rattle.node.specs.Sizes.{nodeFloats, nodeWords, rampTooLong}
 use Rattle.node.specs.declared.Node.{Node}
 use Rattle.node.specs.Nodes.{changed, setNode}
-use Rattle.node.specs.Areas.{lenAt, nodeAt, storedFloats, storedWords, someBad}
+use Rattle.node.specs.Areas.{lenAt, safeAt, nodeAt, storedFloats, storedWords, someBad}
 use Rattle.plan.specs.Limits.{unitLimits}
 use Rattle.plan.specs.Areas.{shorter}
 
@@ -58,9 +58,17 @@ adoptionAnswer new old pairs ramp = first (adoptionTests new old pairs ramp) Acc
 abbrev pub adopted : Node → Node → ℕ → Node
 adopted new old ramp = setNode (changed new (old .cur) (new .target) (new .step) (new .left)) (new .target) ramp
 
--- "A pair out of range or of different len is skipped."
+-- "A pair out of range or of different len is skipped.", as in the Rust
+abbrev pub unmatched : Lent → Lent → ℕ → ℕ → Bool
+unmatched new old n o = leb (new .count) n || leb (old .count) o || not (eqb (lenAt (new .words) n) (lenAt (old .words) o))
+
+-- node n is safe, a term of request C-13
+abbrev pub safeIn : Lent → ℕ → Bool
+safeIn l n = not (eqb (safeAt (l .words) n) 0)
+
+-- and by request C-13: "Adoption skips a pair whose new node is safe."
 abbrev pub skipped : Lent → Lent → ℕ → ℕ → Bool
-skipped new old n o = leb (new .count) n || leb (old .count) o || not (eqb (lenAt (new .words) n) (lenAt (old .words) o))
+skipped new old n o = unmatched new old n o || safeIn new n
 
 -- node n of the new plan after it took old node o
 abbrev pub adoptedAt : Lent → Lent → ℕ → ℕ → ℕ → Node
@@ -69,23 +77,35 @@ adoptedAt new old ramp n o = adopted (nodeIn new n) (nodeIn old o) ramp
 abbrev pub stored : Lent → ℕ → Node → Lent
 stored l n node = lent (l .count) (storedFloats (l .floats) n node) (storedWords (l .words) n node)
 
--- the new plan's nodes after one pair
-unfoldable pub pairAdopted : Lent → ℕ → ℕ → ℕ → Lent → Lent
-pairAdopted old ramp n o new = cond (skipped new old n o) new (stored new n (adoptedAt new old ramp n o))
+-- the new plan's nodes after one pair, by a rule that says which pairs are skipped
+unfoldable pub pairBy : (Lent → Lent → ℕ → ℕ → Bool) → Lent → ℕ → ℕ → ℕ → Lent → Lent
+pairBy skips old ramp n o new = cond (skips new old n o) new (stored new n (adoptedAt new old ramp n o))
 
 -- and after all; a number that is left over, as in a list of odd length, names no pair
-unfoldable pub pairsAdopted : Lent → ℕ → List ℕ → Lent → Lent
-unfolding pairAdopted
-pairsAdopted old ramp [] new = new
-pairsAdopted old ramp (n ∷ []) new = new
-pairsAdopted old ramp (n ∷ o ∷ pairs) new = pairsAdopted old ramp pairs (pairAdopted old ramp n o new)
+unfoldable pub pairsBy : (Lent → Lent → ℕ → ℕ → Bool) → Lent → ℕ → List ℕ → Lent → Lent
+unfolding pairBy
+pairsBy skips old ramp [] new = new
+pairsBy skips old ramp (n ∷ []) new = new
+pairsBy skips old ramp (n ∷ o ∷ pairs) new = pairsBy skips old ramp pairs (pairBy skips old ramp n o new)
+
+-- without the pairs whose new node is safe: what the Rust, which has no safe nodes, would be given
+abbrev pub withoutSafe : Lent → List ℕ → List ℕ
+withoutSafe new [] = []
+withoutSafe new (n ∷ []) = n ∷ []
+withoutSafe new (n ∷ o ∷ pairs) = cond (safeIn new n) (withoutSafe new pairs) (n ∷ o ∷ withoutSafe new pairs)
+
+abbrev pub pairAdopted : Lent → ℕ → ℕ → ℕ → Lent → Lent
+pairAdopted = pairBy skipped
+
+abbrev pub pairsAdopted : Lent → ℕ → List ℕ → Lent → Lent
+pairsAdopted = pairsBy skipped
 
 -- ---- the new plan's areas after the call
 
 unfoldable pub adoptionFloats : Lent → Lent → List ℕ → ℕ → List Float
-unfolding adoptionAnswer pairsAdopted
+unfolding adoptionAnswer pairsBy
 adoptionFloats new old pairs ramp = areaAfter (adoptionAnswer new old pairs ramp) (pairsAdopted old ramp pairs new .floats) (new .floats)
 
 unfoldable pub adoptionWords : Lent → Lent → List ℕ → ℕ → List ℕ
-unfolding adoptionAnswer pairsAdopted
+unfolding adoptionAnswer pairsBy
 adoptionWords new old pairs ramp = areaAfter (adoptionAnswer new old pairs ramp) (pairsAdopted old ramp pairs new .words) (new .words)

@@ -72,8 +72,11 @@ fn adopt_pair(
         return;
     }
     let old = node_areas::load(old_floats, old_words, o);
-    let cur = old.cur;
     let mut node = node_areas::load(&node_floats[..], &node_words[..], n);
+    if node.safe != 0 {
+        return;
+    }
+    let cur = old.cur;
     node.cur = cur;
     let target = node.target;
     node_areas::store(node.set(&target[..], ramp), node_floats, node_words, n);
@@ -112,7 +115,7 @@ fn adopt_pairs(
 }
 
 // Each new node of a pair (new, old) in `pairs` takes the cur of its old node and ramps to its own target again, over `ramp` samples. A pair that
-// names no node of its plan, or nodes of different len, is skipped.
+// names no node of its plan, or nodes of different len, or whose new node is safe, is skipped.
 pub fn adopt(
     nodes: usize,
     node_floats: &mut [f32],

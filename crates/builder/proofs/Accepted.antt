@@ -51,20 +51,20 @@ module _ (l : Limits) (s : BuilderState) where
   unfolding buffersAnswer coefficientsAnswer nodeAnswer stepAnswer
   call-exactly (buffers n) = without-id (buffersGrowth n) (lentIndices (length (s .indices))) [] refl
   call-exactly (coefficients xs) = without-id (coefficientsGrowth (length xs)) (lentCoefficients (length (s .coefficients))) [] refl
-  call-exactly (node id xs ramp) =
-      let x = growth-exactly l (s .plan) nodeGrowth (lentNodes (length (s .floats)) (length (s .words))) (nodeOwn (s .plan) id (length xs) ramp (s .words)) in (
+  call-exactly (node id xs ramp safe) =
+      let x = growth-exactly l (s .plan) nodeGrowth (lentNodes (length (s .floats)) (length (s .words))) (nodeOwn (s .plan) id (length xs) ramp safe (s .words)) in (
         λ e.
             let h = x .0 e in
             let own = h .1 .1 in
-            (record { limits = h .0; areas = h .1 .0; new = one-taken id .1 (own .1 .0) }, (own .0, own .1 .1 .0)),
-        λ f. x .1 (f .0 .limits, (f .0 .areas, (f .1 .0, (one-taken id .0 (f .0 .new), (f .1 .1, tt))))),
+            (record { limits = h .0; areas = h .1 .0; new = one-taken id .1 (own .1 .0) }, (own .0, own .1 .1 .0, own .1 .1 .1 .0)),
+        λ f. x .1 (f .0 .limits, (f .0 .areas, (f .1 .0, (one-taken id .0 (f .0 .new), (f .1 .1, (f .1 .2, tt)))))),
       )
   call-exactly (step w) = without-id (stepGrowth (recordLength w)) (lentSteps (length (s .steps))) (stepOwn w) refl
 
   pub plan-after : (c : BuilderCall) → answer l s c ≡ Accepted → after l s c .plan ≡ grown (s .plan) (growthOf c)
   plan-after (buffers n) e = plan-accepted (s .plan) (buffersGrowth n) e
   plan-after (coefficients xs) e = plan-accepted (s .plan) (coefficientsGrowth (length xs)) e
-  plan-after (node id xs ramp) e = plan-accepted (s .plan) nodeGrowth e
+  plan-after (node id xs ramp safe) e = plan-accepted (s .plan) nodeGrowth e
   plan-after (step w) e = plan-accepted (s .plan) (stepGrowth (recordLength w)) e
 
   lengths-after : (c : BuilderCall) → answer l s c ≡ Accepted → lengths (after l s c) ≡ lengths s
@@ -84,14 +84,14 @@ module _ (l : Limits) (s : BuilderState) where
   unfolding has
   ids-after (buffers n) ids e = rw (plan-accepted (s .plan) (buffersGrowth n) e) (λ h. (refl, h), λ h. h .1)
   ids-after (coefficients xs) ids e = rw (plan-accepted (s .plan) (coefficientsGrowth (length xs)) e) (λ h. (refl, h), λ h. h .1)
-  ids-after (node id xs ramp) ids e =
+  ids-after (node id xs ramp safe) ids e =
       let words = s .words in
       let n = s .plan .nodes in
-      let x = newNode id xs ramp in
-      let f = node-fits l (s .plan) id (length xs) ramp (length (s .floats)) words e in
-      let own : has ids (x .id) ≡ has ids id = ap (has ids) (id-new id xs ramp) in
+      let x = newNode id xs ramp safe in
+      let f = node-fits l (s .plan) id (length xs) ramp safe (length (s .floats)) words e in
+      let own : has ids (x .id) ≡ has ids id = ap (has ids) (id-new id xs ramp safe) in
       let after-it = ids-stored words n x (f .words) ids in
-      rw (plan-accepted (s .plan) nodeGrowth e, words-accepted l (s .plan) id xs ramp (s .floats) words e) (
+      rw (plan-accepted (s .plan) nodeGrowth e, words-accepted l (s .plan) id xs ramp safe (s .floats) words e) (
         λ h.
             let u = or-none (idAmong words n id) (has ids id || idsTaken words n ids) h in
             let v = or-none (has ids id) (idsTaken words n ids) (u .1) in
@@ -156,7 +156,7 @@ own-new : (words : List ℕ) (n : ℕ) (c : BuilderCall) (ids : List ℕ) → id
 unfolding has
 own-new words n (buffers m) ids e = refl
 own-new words n (coefficients xs) ids e = refl
-own-new words n (node id xs ramp) ids e = none-or (idAmong words n id) _ (or-none (idAmong words n id) (has ids id || idsTaken words n ids) e .0) refl
+own-new words n (node id xs ramp safe) ids e = none-or (idAmong words n id) _ (or-none (idAmong words n id) (has ids id || idsTaken words n ids) e .0) refl
 own-new words n (step w) ids e = refl
 
 module _ (l : Limits) where

@@ -12,7 +12,7 @@ use Rattle.refusal.specs.Tests.{test}
 use Rattle.refusal.specs.declared.Answer.the-variants.{Accepted}
 use Rattle.refusal.proofs.Laws.{accepted-none}
 use lib.ListN.{length}
-use Rattle.node.specs.Sizes.{maxValues, nodeFloats, nodeWords, maxRamp}
+use Rattle.node.specs.Sizes.{maxValues, nodeFloats, nodeWords, maxRamp, maxSafe}
 use Rattle.plan.proofs.Words.{read-cut}
 use Rattle.plan.specs.declared.Plan.{Plan}
 use Rattle.plan.specs.declared.Limits.{Limits}
@@ -50,19 +50,20 @@ coefficients-fit l p n len e =
       area = ltb-false _ _ (sym (coefficients-past l p n len) ∙ t .1 .0);
     }
 
-pub record NodeFits (l : Limits) (p : Plan) (i n r f : ℕ) (w : List ℕ) : Type 0 where
+pub record NodeFits (l : Limits) (p : Plan) (i n r s f : ℕ) (w : List ℕ) : Type 0 where
   pub nodes : p .nodes + 1 ≤ l .nodes
   pub floats : (p .nodes + 1) * nodeFloats ≤ f
   pub words : (p .nodes + 1) * nodeWords ≤ length w
   pub values : n ≤ maxValues
   pub id : idAmong w (p .nodes) i ≡ false
   pub ramp : r ≤ maxRamp
+  pub safe : s ≤ maxSafe
 
-pub node-fits : (l : Limits) (p : Plan) (id n ramp floats : ℕ) (words : List ℕ) → nodeAnswer l p id n ramp floats words ≡ Accepted
-    → NodeFits l p id n ramp floats words
+pub node-fits : (l : Limits) (p : Plan) (id n ramp safe floats : ℕ) (words : List ℕ) → nodeAnswer l p id n ramp safe floats words ≡ Accepted
+    → NodeFits l p id n ramp safe floats words
 unfolding nodeAnswer
-node-fits l p id n ramp floats words e =
-    let t = growth-passed l p nodeGrowth (lentNodes floats (length words)) (nodeOwn p id n ramp words) (accepted-none (nodeTests l p id n ramp floats words) Accepted e .0) in
+node-fits l p id n ramp safe floats words e =
+    let t = growth-passed l p nodeGrowth (lentNodes floats (length words)) (nodeOwn p id n ramp safe words) (accepted-none (nodeTests l p id n ramp safe floats words) Accepted e .0) in
     let s = or-none _ _ (sym (node-past l p n floats (length words)) ∙ t .1 .0) in
     record {
       nodes = ltb-false _ _ (sym (node-over l p n floats) ∙ t .0);
@@ -71,6 +72,7 @@ node-fits l p id n ramp floats words e =
       values = ltb-false _ _ (t .1 .1 .0);
       id = t .1 .1 .1 .0;
       ramp = ltb-false _ _ (t .1 .1 .1 .1 .0);
+      safe = ltb-false _ _ (t .1 .1 .1 .1 .1 .0);
     }
 
 pub record FinishFits (l : Limits) (p : Plan) (len : ℕ) : Type 0 where

@@ -13,13 +13,13 @@ use Rattle.builder.specs.Built.{BuilderCall, buffers, coefficients, node
 abbrev pub stepsIn : BuilderCall → List Step
 stepsIn (buffers n) = []
 stepsIn (coefficients xs) = []
-stepsIn (node id xs ramp) = []
+stepsIn (node id xs ramp safe) = []
 stepsIn (step w) = stepRead (readAt w 0)
 
 abbrev pub buffersIn : BuilderCall → ℕ
 buffersIn (buffers n) = n
 buffersIn (coefficients xs) = 0
-buffersIn (node id xs ramp) = 0
+buffersIn (node id xs ramp safe) = 0
 buffersIn (step w) = 0
 
 abbrev pub stepsGiven : List BuilderCall → List Step
@@ -41,19 +41,19 @@ numbers-append k (suc n) m =
 given-steps : (d : Draft) (c : BuilderCall) → given d c .steps ≡ d .steps ++ stepsIn c
 given-steps d (buffers n) = sym (append-nil (d .steps))
 given-steps d (coefficients xs) = sym (append-nil (d .steps))
-given-steps d (node id xs ramp) = sym (append-nil (d .steps))
+given-steps d (node id xs ramp safe) = sym (append-nil (d .steps))
 given-steps d (step w) = refl
 
 given-buffers : (d : Draft) (c : BuilderCall) → given d c .buffers ≡ d .buffers + buffersIn c
 given-buffers d (buffers n) = refl
 given-buffers d (coefficients xs) = sym (add-zero (d .buffers))
-given-buffers d (node id xs ramp) = sym (add-zero (d .buffers))
+given-buffers d (node id xs ramp safe) = sym (add-zero (d .buffers))
 given-buffers d (step w) = sym (add-zero (d .buffers))
 
 given-indices : (d : Draft) (c : BuilderCall) → given d c .indices ≡ d .indices ++ numbersFrom (d .buffers) (buffersIn c)
 given-indices d (buffers n) = refl
 given-indices d (coefficients xs) = sym (append-nil (d .indices))
-given-indices d (node id xs ramp) = sym (append-nil (d .indices))
+given-indices d (node id xs ramp safe) = sym (append-nil (d .indices))
 given-indices d (step w) = sym (append-nil (d .indices))
 
 -- ---- of a list of calls

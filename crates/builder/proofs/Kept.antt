@@ -54,15 +54,15 @@ accepted-kept l s (coefficients xs) e =
       words = untouched (p .nodes * nodeWords) (s .words);
       steps = untouched (p .words) (s .steps);
     })
-accepted-kept l s (node id xs ramp) e =
+accepted-kept l s (node id xs ramp safe) e =
     let p = s .plan in
-    let new = newNode id xs ramp in
-    rw (plan-accepted p nodeGrowth e, floats-accepted l p id xs ramp (s .floats) (s .words) e, words-accepted l p id xs ramp (s .floats) (s .words) e)
+    let new = newNode id xs ramp safe in
+    rw (plan-accepted p nodeGrowth e, floats-accepted l p id xs ramp safe (s .floats) (s .words) e, words-accepted l p id xs ramp safe (s .floats) (s .words) e)
     (record {
       block = refl;
       indices = untouched (p .indices) (s .indices);
       coefficients = untouched (p .coefficients) (s .coefficients);
-      floats = stored (p .nodes * nodeFloats) ((p .nodes + 1) * nodeFloats) (s .floats) (floatsOf new) (omega (arith, length-floats new (full-new id xs ramp)));
+      floats = stored (p .nodes * nodeFloats) ((p .nodes + 1) * nodeFloats) (s .floats) (floatsOf new) (omega (arith, length-floats new (full-new id xs ramp safe)));
       words = stored (p .nodes * nodeWords) ((p .nodes + 1) * nodeWords) (s .words) (wordsOf new) (unfold wordsOf in omega arith);
       steps = untouched (p .words) (s .steps);
     })

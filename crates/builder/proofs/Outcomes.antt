@@ -44,25 +44,25 @@ module _ (l : Limits) (p : Plan) where
     unfolding coefficientsArea
     coefficients-accepted e = outcome-accepted (coefficientsAnswer l p (length values) (length area)) (sets area (p .coefficients) values) (λ _. area) e
 
-  module _ (id : ℕ) (values : List Float) (ramp : ℕ) (floats : List Float) (words : List ℕ) where
+  module _ (id : ℕ) (values : List Float) (ramp safe : ℕ) (floats : List Float) (words : List ℕ) where
     abbrev answered : Answer
-    answered = nodeAnswer l p id (length values) ramp (length floats) words
+    answered = nodeAnswer l p id (length values) ramp safe (length floats) words
 
-    pub floats-refused : {r : Refusal} → answered ≡ Refused r → nodeFloatsArea l p id values ramp floats words ≡ floats
+    pub floats-refused : {r : Refusal} → answered ≡ Refused r → nodeFloatsArea l p id values ramp safe floats words ≡ floats
     unfolding nodeFloatsArea
-    floats-refused {r} e = refused-keeps answered (storedFloats floats (p .nodes) (newNode id values ramp)) floats r e
+    floats-refused {r} e = refused-keeps answered (storedFloats floats (p .nodes) (newNode id values ramp safe)) floats r e
 
-    pub floats-accepted : answered ≡ Accepted → nodeFloatsArea l p id values ramp floats words ≡ storedFloats floats (p .nodes) (newNode id values ramp)
+    pub floats-accepted : answered ≡ Accepted → nodeFloatsArea l p id values ramp safe floats words ≡ storedFloats floats (p .nodes) (newNode id values ramp safe)
     unfolding nodeFloatsArea
-    floats-accepted e = outcome-accepted answered (storedFloats floats (p .nodes) (newNode id values ramp)) (λ _. floats) e
+    floats-accepted e = outcome-accepted answered (storedFloats floats (p .nodes) (newNode id values ramp safe)) (λ _. floats) e
 
-    pub words-refused : {r : Refusal} → answered ≡ Refused r → nodeWordsArea l p id values ramp floats words ≡ words
+    pub words-refused : {r : Refusal} → answered ≡ Refused r → nodeWordsArea l p id values ramp safe floats words ≡ words
     unfolding nodeWordsArea
-    words-refused {r} e = refused-keeps answered (storedWords words (p .nodes) (newNode id values ramp)) words r e
+    words-refused {r} e = refused-keeps answered (storedWords words (p .nodes) (newNode id values ramp safe)) words r e
 
-    pub words-accepted : answered ≡ Accepted → nodeWordsArea l p id values ramp floats words ≡ storedWords words (p .nodes) (newNode id values ramp)
+    pub words-accepted : answered ≡ Accepted → nodeWordsArea l p id values ramp safe floats words ≡ storedWords words (p .nodes) (newNode id values ramp safe)
     unfolding nodeWordsArea
-    words-accepted e = outcome-accepted answered (storedWords words (p .nodes) (newNode id values ramp)) (λ _. words) e
+    words-accepted e = outcome-accepted answered (storedWords words (p .nodes) (newNode id values ramp safe)) (λ _. words) e
 
   module _ (w area : List ℕ) where
     pub step-refused : {r : Refusal} → stepAnswer l p w (length area) ≡ Refused r → stepArea l p w area ≡ area

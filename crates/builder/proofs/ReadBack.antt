@@ -46,12 +46,12 @@ counted : {A : Type 0} (xs vs : List A) {k n : ℕ} → k ≡ length xs → leng
 counted xs vs p e = omega (arith, length-append xs vs)
 
 -- the nodes with one more
-node-appended : (n id : ℕ) (values : List Float) (ramp : ℕ) (floats : List Float) (words : List ℕ) → (n + 1) * nodeFloats ≤ length floats → (n + 1) * nodeWords ≤ length words
-    → nodes (n + 1) (storedFloats floats n (newNode id values ramp)) (storedWords words n (newNode id values ramp)) ≡ nodes n floats words ++ (newNode id values ramp ∷ [])
+node-appended : (n id : ℕ) (values : List Float) (ramp safe : ℕ) (floats : List Float) (words : List ℕ) → (n + 1) * nodeFloats ≤ length floats → (n + 1) * nodeWords ≤ length words
+    → nodes (n + 1) (storedFloats floats n (newNode id values ramp safe)) (storedWords words n (newNode id values ramp safe)) ≡ nodes n floats words ++ (newNode id values ramp safe ∷ [])
 unfolding nodes
-node-appended n id values ramp floats words hf hw =
-    let new = newNode id values ramp in
-    let full = full-new id values ramp in
+node-appended n id values ramp safe floats words hf hw =
+    let new = newNode id values ramp safe in
+    let full = full-new id values ramp safe in
     let fs = storedFloats floats n new in
     let ws = storedWords words n new in
     let before : nodes n fs ws ≡ nodes n floats words =
@@ -100,21 +100,21 @@ module _ (l : Limits) (s : BuilderState) (d : Draft) (h : Drafted s d) where
         steps = h .steps;
       })
 
-  node-drafted : (id : ℕ) (xs : List Float) (ramp : ℕ) → answer l s (node id xs ramp) ≡ Accepted → Drafted (after l s (node id xs ramp)) (given d (node id xs ramp))
-  node-drafted id xs ramp e =
+  node-drafted : (id : ℕ) (xs : List Float) (ramp safe : ℕ) → answer l s (node id xs ramp safe) ≡ Accepted → Drafted (after l s (node id xs ramp safe)) (given d (node id xs ramp safe))
+  node-drafted id xs ramp safe e =
       let p = s .plan in
-      let f = node-fits l p id (length xs) ramp (length (s .floats)) (s .words) e in
-      rw (plan-accepted p nodeGrowth e, floats-accepted l p id xs ramp (s .floats) (s .words) e, words-accepted l p id xs ramp (s .floats) (s .words) e)
+      let f = node-fits l p id (length xs) ramp safe (length (s .floats)) (s .words) e in
+      rw (plan-accepted p nodeGrowth e, floats-accepted l p id xs ramp safe (s .floats) (s .words) e, words-accepted l p id xs ramp safe (s .floats) (s .words) e)
       (record {
         buffers = h .buffers;
         index-count = h .index-count;
         coefficient-count = h .coefficient-count;
-        node-count = counted (d .nodes) (newNode id xs ramp ∷ []) (h .node-count) refl;
+        node-count = counted (d .nodes) (newNode id xs ramp safe ∷ []) (h .node-count) refl;
         step-count = h .step-count;
         word-count = h .word-count;
         indices = h .indices;
         coefficients = h .coefficients;
-        nodes = node-appended (p .nodes) id xs ramp (s .floats) (s .words) (f .floats) (f .words) ∙ ap (λ ns. ns ++ (newNode id xs ramp ∷ [])) (h .nodes);
+        nodes = node-appended (p .nodes) id xs ramp safe (s .floats) (s .words) (f .floats) (f .words) ∙ ap (λ ns. ns ++ (newNode id xs ramp safe ∷ [])) (h .nodes);
         words = h .words;
         steps = h .steps;
       })
@@ -185,7 +185,7 @@ module _ (l : Limits) (s : BuilderState) (d : Draft) (h : Drafted s d) (w : List
 pub call-drafted : (l : Limits) (s : BuilderState) (d : Draft) (c : BuilderCall) → Drafted s d → answer l s c ≡ Accepted → Drafted (after l s c) (given d c)
 call-drafted l s d (buffers n) h e = buffers-drafted l s d h n e
 call-drafted l s d (coefficients xs) h e = coefficients-drafted l s d h xs e
-call-drafted l s d (node id xs ramp) h e = node-drafted l s d h id xs ramp e
+call-drafted l s d (node id xs ramp safe) h e = node-drafted l s d h id xs ramp safe e
 call-drafted l s d (step w) h e = step-drafted l s d h w e
 
 pub built-drafted : (cs : List (Asked BuilderCall)) (s : BuilderState) (d : Draft) → Drafted s d → Drafted (built s cs) (drafted d (accepted s cs))

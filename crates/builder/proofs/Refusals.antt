@@ -14,7 +14,7 @@ refused-nothing l s (buffers n) r e =
     rw (plan-refused (s .plan) (buffersGrowth n) e, buffers-refused l (s .plan) n (s .indices) e)
 refused-nothing l s (coefficients xs) r e =
     rw (plan-refused (s .plan) (coefficientsGrowth (length xs)) e, coefficients-refused l (s .plan) xs (s .coefficients) e)
-refused-nothing l s (node id xs ramp) r e =
-    rw (plan-refused (s .plan) nodeGrowth e, floats-refused l (s .plan) id xs ramp (s .floats) (s .words) e, words-refused l (s .plan) id xs ramp (s .floats) (s .words) e)
+refused-nothing l s (node id xs ramp safe) r e =
+    rw (plan-refused (s .plan) nodeGrowth e, floats-refused l (s .plan) id xs ramp safe (s .floats) (s .words) e, words-refused l (s .plan) id xs ramp safe (s .floats) (s .words) e)
 refused-nothing l s (step w) r e =
     rw (plan-refused (s .plan) (stepGrowth (recordLength w)) e, step-refused l (s .plan) w (s .steps) e)

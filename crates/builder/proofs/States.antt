@@ -23,12 +23,12 @@ module _ (l : Limits) (p : Plan) (ix : List ℕ) (co fl : List Float) (wo st : L
       → builderState q ix co′ fl wo st ≡ after l (builderState p ix co fl wo st) (coefficients xs)
   coefficients-state xs a b = λ i. builderState (a i) ix (b i) fl wo st
 
-  pub node-state : (id : ℕ) (xs : List Float) (ramp : ℕ) {fl′ : List Float} {wo′ : List ℕ}
-      → q ≡ planAfter (nodeAnswer l p id (length xs) ramp (length fl) wo) p nodeGrowth
-      → fl′ ≡ nodeFloatsArea l p id xs ramp fl wo
-      → wo′ ≡ nodeWordsArea l p id xs ramp fl wo
-      → builderState q ix co fl′ wo′ st ≡ after l (builderState p ix co fl wo st) (node id xs ramp)
-  node-state id xs ramp a b c = λ i. builderState (a i) ix co (b i) (c i) st
+  pub node-state : (id : ℕ) (xs : List Float) (ramp safe : ℕ) {fl′ : List Float} {wo′ : List ℕ}
+      → q ≡ planAfter (nodeAnswer l p id (length xs) ramp safe (length fl) wo) p nodeGrowth
+      → fl′ ≡ nodeFloatsArea l p id xs ramp safe fl wo
+      → wo′ ≡ nodeWordsArea l p id xs ramp safe fl wo
+      → builderState q ix co fl′ wo′ st ≡ after l (builderState p ix co fl wo st) (node id xs ramp safe)
+  node-state id xs ramp safe a b c = λ i. builderState (a i) ix co (b i) (c i) st
 
   pub step-state : (w : List ℕ) {st′ : List ℕ}
       → q ≡ planAfter (stepAnswer l p w (length st)) p (stepGrowth (recordLength w))

@@ -68,18 +68,18 @@ numbers-below k n =
     some-none (k + n) (numbersFrom k n) .1
     (λ i h. let j : i < n = rw length-numbers at h in omega (arith, getD-numbers k n i 0 j))
 
-module _ (words : List ℕ) (n id : ℕ) (values : List Float) (ramp : ℕ) (room : (n + 1) * nodeWords ≤ length words) (new : idAmong words n id ≡ false) where
+module _ (words : List ℕ) (n id : ℕ) (values : List Float) (ramp safe : ℕ) (room : (n + 1) * nodeWords ≤ length words) (new : idAmong words n id ≡ false) where
   abbrev stored : List ℕ
-  stored = storedWords words n (newNode id values ramp)
+  stored = storedWords words n (newNode id values ramp safe)
 
   before : (i : ℕ) → i < n → idAt stored i ≡ idAt words i
-  before = id-before words n (newNode id values ramp) room
+  before = id-before words n (newNode id values ramp safe) room
 
   still-once : idTwice words n ≡ false → idTwice stored (n + 1) ≡ false
   still-once once = ids-none stored (n + 1) .1 (λ i j h k q. go i j h k q (decLt j n))
     where
       here : idAt stored n ≡ id
-      here = id-stored words n (newNode id values ramp) room ∙ id-new id values ramp
+      here = id-stored words n (newNode id values ramp safe) room ∙ id-new id values ramp safe
 
       go : (i j : ℕ) → i < j → j < n + 1 → idAt stored i ≡ idAt stored j → Dec (j < n) → ⊥
       go i j h k q (yes l) = ids-none words n .0 once i j h l (sym (before i (omega arith)) ∙ q ∙ before j l)
@@ -141,12 +141,12 @@ module _ (l : Limits) where
         entries = t .entries;
         ids = t .ids;
       })
-  tables-kept s (node id xs ramp) e t =
+  tables-kept s (node id xs ramp safe) e t =
       let p = s .plan in
-      let k = accepted-kept l s (node id xs ramp) e in
-      let f = node-fits l p id (length xs) ramp (length (s .floats)) (s .words) e in
-      let ids : idTwice (after l s (node id xs ramp) .words) (p .nodes + 1) ≡ false =
-      rw (words-accepted l p id xs ramp (s .floats) (s .words) e) (still-once (s .words) (p .nodes) id xs ramp (f .words) (f .id) (t .ids)) in
+      let k = accepted-kept l s (node id xs ramp safe) e in
+      let f = node-fits l p id (length xs) ramp safe (length (s .floats)) (s .words) e in
+      let ids : idTwice (after l s (node id xs ramp safe) .words) (p .nodes + 1) ≡ false =
+      rw (words-accepted l p id xs ramp safe (s .floats) (s .words) e) (still-once (s .words) (p .nodes) id xs ramp safe (f .words) (f .id) (t .ids)) in
       rw (plan-accepted p nodeGrowth e)
       (record {
         block = t .block;

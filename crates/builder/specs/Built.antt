@@ -25,7 +25,7 @@ use Rattle.builder.specs.Calls.{planAfter, buffersAnswer, numbersFrom, b
 pub data BuilderCall : Type 0 where
   buffers : ℕ → BuilderCall
   coefficients : List Float → BuilderCall
-  node : (id : ℕ) (values : List Float) (ramp : ℕ) → BuilderCall
+  node : (id : ℕ) (values : List Float) (ramp safe : ℕ) → BuilderCall
   step : List ℕ → BuilderCall
 
 -- a call, and the limits that it is tested by
@@ -57,7 +57,7 @@ module _ (l : Limits) where
   abbrev pub answer : BuilderState → BuilderCall → Answer
   answer s (buffers n) = buffersAnswer l (s .plan) n (length (s .indices))
   answer s (coefficients xs) = coefficientsAnswer l (s .plan) (length xs) (length (s .coefficients))
-  answer s (node id xs ramp) = nodeAnswer l (s .plan) id (length xs) ramp (length (s .floats)) (s .words)
+  answer s (node id xs ramp safe) = nodeAnswer l (s .plan) id (length xs) ramp safe (length (s .floats)) (s .words)
   answer s (step w) = stepAnswer l (s .plan) w (length (s .steps))
 
   -- what a call leaves, refused or not
@@ -80,13 +80,13 @@ module _ (l : Limits) where
         words = s .words;
         steps = s .steps;
       }
-  after s (node id xs ramp) =
+  after s (node id xs ramp safe) =
       record {
-        plan = planAfter (answer s (node id xs ramp)) (s .plan) nodeGrowth;
+        plan = planAfter (answer s (node id xs ramp safe)) (s .plan) nodeGrowth;
         indices = s .indices;
         coefficients = s .coefficients;
-        floats = nodeFloatsArea l (s .plan) id xs ramp (s .floats) (s .words);
-        words = nodeWordsArea l (s .plan) id xs ramp (s .floats) (s .words);
+        floats = nodeFloatsArea l (s .plan) id xs ramp safe (s .floats) (s .words);
+        words = nodeWordsArea l (s .plan) id xs ramp safe (s .floats) (s .words);
         steps = s .steps;
       }
   after s (step w) =
@@ -157,12 +157,12 @@ given d (buffers n) =
     }
 given d (coefficients xs) =
     record { buffers = d .buffers; indices = d .indices; coefficients = d .coefficients ++ xs; nodes = d .nodes; steps = d .steps; words = d .words }
-given d (node id xs ramp) =
+given d (node id xs ramp safe) =
     record {
       buffers = d .buffers;
       indices = d .indices;
       coefficients = d .coefficients;
-      nodes = d .nodes ++ (newNode id xs ramp ∷ []);
+      nodes = d .nodes ++ (newNode id xs ramp safe ∷ []);
       steps = d .steps;
       words = d .words;
     }

@@ -7,11 +7,11 @@ use lib.Dec.{ltb, leb}
 use lib.ListN.{length, getD, take, replicate}
 use lib.Seq.{sets}
 use lib.Ieee.{Float}
-use Rattle.refusal.specs.Numbers.{blockLength, shortArea, unreadableStep, tooManyValues, idTaken, longRamp}
+use Rattle.refusal.specs.Numbers.{blockLength, shortArea, unreadableStep, tooManyValues, idTaken, longRamp, badNode}
 use Rattle.refusal.specs.Tests.{Test, test, first, outcome, areaAfter}
 use Rattle.refusal.specs.declared.Answer.{Answer}
 use Rattle.refusal.specs.declared.Answer.the-variants.{Accepted}
-use Rattle.node.specs.Sizes.{maxValues, rampTooLong}
+use Rattle.node.specs.Sizes.{maxValues, rampTooLong, safeTooHigh}
 use Rattle.node.specs.Nodes.{silence, newNode}
 use Rattle.node.specs.Areas.{storedFloats, storedWords}
 use Rattle.plan.specs.declared.Plan.{Plan}
@@ -105,7 +105,7 @@ unfoldable pub coefficientsSpan : Limits → Plan → ℕ → ℕ → SpanAnswer
 unfolding coefficientsAnswer
 coefficientsSpan l p n len = outcome (coefficientsAnswer l p n len) (spanned.Made (span (p .coefficients) n)) spanned.Refused
 
--- ---- `node`: 5, 2, 7, 8, 10
+-- ---- `node`: 5, 2, 7, 8, 10, and by request C-13 "14, at the builder last"
 
 abbrev pub lentNodes : ℕ → ℕ → Lengths
 lentNodes floats words = record { indices = 0; coefficients = 0; nodeFloats = floats; nodeWords = words; stepWords = 0 }
@@ -115,30 +115,34 @@ abbrev pub tooMany : ℕ → Bool
 tooMany n = ltb maxValues n
 
 -- its own, of n values
-abbrev pub nodeOwn : Plan → ℕ → ℕ → ℕ → List ℕ → List Test
-nodeOwn p id n ramp words =
-    test tooManyValues (tooMany n) ∷ test idTaken (idAmong words (p .nodes) id) ∷ test longRamp (rampTooLong ramp) ∷ []
+abbrev pub nodeOwn : Plan → ℕ → ℕ → ℕ → ℕ → List ℕ → List Test
+nodeOwn p id n ramp safe words =
+    test tooManyValues (tooMany n)
+    ∷ test idTaken (idAmong words (p .nodes) id)
+    ∷ test longRamp (rampTooLong ramp)
+    ∷ test badNode (safeTooHigh safe)
+    ∷ []
 
-abbrev pub nodeTests : Limits → Plan → ℕ → ℕ → ℕ → ℕ → List ℕ → List Test
-nodeTests l p id n ramp floats words = growthTests l p nodeGrowth (lentNodes floats (length words)) (nodeOwn p id n ramp words)
+abbrev pub nodeTests : Limits → Plan → ℕ → ℕ → ℕ → ℕ → ℕ → List ℕ → List Test
+nodeTests l p id n ramp safe floats words = growthTests l p nodeGrowth (lentNodes floats (length words)) (nodeOwn p id n ramp safe words)
 
-unfoldable pub nodeAnswer : Limits → Plan → ℕ → ℕ → ℕ → ℕ → List ℕ → Answer
-nodeAnswer l p id n ramp floats words = first (nodeTests l p id n ramp floats words) Accepted
+unfoldable pub nodeAnswer : Limits → Plan → ℕ → ℕ → ℕ → ℕ → ℕ → List ℕ → Answer
+nodeAnswer l p id n ramp safe floats words = first (nodeTests l p id n ramp safe floats words) Accepted
 
 -- the new node follows the others, and its number is its place among them
-unfoldable pub nodeFloatsArea : Limits → Plan → ℕ → List Float → ℕ → List Float → List ℕ → List Float
+unfoldable pub nodeFloatsArea : Limits → Plan → ℕ → List Float → ℕ → ℕ → List Float → List ℕ → List Float
 unfolding nodeAnswer
-nodeFloatsArea l p id values ramp floats words =
-    areaAfter (nodeAnswer l p id (length values) ramp (length floats) words) (storedFloats floats (p .nodes) (newNode id values ramp)) floats
+nodeFloatsArea l p id values ramp safe floats words =
+    areaAfter (nodeAnswer l p id (length values) ramp safe (length floats) words) (storedFloats floats (p .nodes) (newNode id values ramp safe)) floats
 
-unfoldable pub nodeWordsArea : Limits → Plan → ℕ → List Float → ℕ → List Float → List ℕ → List ℕ
+unfoldable pub nodeWordsArea : Limits → Plan → ℕ → List Float → ℕ → ℕ → List Float → List ℕ → List ℕ
 unfolding nodeAnswer
-nodeWordsArea l p id values ramp floats words =
-    areaAfter (nodeAnswer l p id (length values) ramp (length floats) words) (storedWords words (p .nodes) (newNode id values ramp)) words
+nodeWordsArea l p id values ramp safe floats words =
+    areaAfter (nodeAnswer l p id (length values) ramp safe (length floats) words) (storedWords words (p .nodes) (newNode id values ramp safe)) words
 
-unfoldable pub nodeNumber : Limits → Plan → ℕ → ℕ → ℕ → ℕ → List ℕ → NumberAnswer
+unfoldable pub nodeNumber : Limits → Plan → ℕ → ℕ → ℕ → ℕ → ℕ → List ℕ → NumberAnswer
 unfolding nodeAnswer
-nodeNumber l p id n ramp floats words = outcome (nodeAnswer l p id n ramp floats words) (numbered.Number (p .nodes)) numbered.Refused
+nodeNumber l p id n ramp safe floats words = outcome (nodeAnswer l p id n ramp safe floats words) (numbered.Number (p .nodes)) numbered.Refused
 
 -- ---- `step`: 5, 2, 3, 7. A record is a map and its fields; words past it are ignored.
 

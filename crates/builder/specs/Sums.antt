@@ -6,7 +6,7 @@ use mathlib.Core.List.{List, [], _∷_, _++_}
 use lib.ListN.{length}
 use Rattle.lists.specs.Entries.{has}
 use Rattle.refusal.specs.Tests.{NoneHolds}
-use Rattle.node.specs.Sizes.{rampTooLong}
+use Rattle.node.specs.Sizes.{rampTooLong, safeTooHigh}
 use Rattle.plan.specs.declared.Limits.{Limits}
 use Rattle.plan.specs.Check.{idAmong}
 use Rattle.builder.specs.declared.Change.{Change}
@@ -40,7 +40,7 @@ noGrowth = record { buffers = Same; indices = Same; coefficients = Same; nodes =
 abbrev pub growthOf : BuilderCall → Growth
 growthOf (buffers n) = buffersGrowth n
 growthOf (coefficients xs) = coefficientsGrowth (length xs)
-growthOf (node id xs ramp) = nodeGrowth
+growthOf (node id xs ramp safe) = nodeGrowth
 growthOf (step w) = stepGrowth (recordLength w)
 
 abbrev pub growthOfAll : List BuilderCall → Growth
@@ -52,7 +52,7 @@ growthOfAll (c ∷ cs) = sum (growthOf c) (growthOfAll cs)
 abbrev pub idOf : BuilderCall → List ℕ
 idOf (buffers n) = []
 idOf (coefficients xs) = []
-idOf (node id xs ramp) = id ∷ []
+idOf (node id xs ramp safe) = id ∷ []
 idOf (step w) = []
 
 abbrev pub idsOf : List BuilderCall → List ℕ
@@ -82,11 +82,11 @@ pub record FitsAsOne (l : Limits) (s : BuilderState) (g : Growth) (ids : List �
   pub areas : growsPast (s .plan) g (lengths s) ≡ false
   pub new : idsTaken (s .words) (s .plan .nodes) ids ≡ false
 
--- what else a call tests: 7 and 10, 3 and 7
+-- what else a call tests: 7, 10 and 14, 3 and 7
 abbrev pub Good : BuilderCall → Type 0
 Good (buffers n) = Unit {0}
 Good (coefficients xs) = Unit {0}
-Good (node id xs ramp) = (tooMany (length xs) ≡ false) × (rampTooLong ramp ≡ false)
+Good (node id xs ramp safe) = (tooMany (length xs) ≡ false) × (rampTooLong ramp ≡ false) × (safeTooHigh safe ≡ false)
 Good (step w) = NoneHolds (stepOwn w)
 
 abbrev pub AllGood : List BuilderCall → Type 0

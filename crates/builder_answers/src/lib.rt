@@ -60,10 +60,11 @@ pub fn node_answer(
     id: u32,
     n: usize,
     ramp: u32,
+    safe: u32,
     floats: usize,
     words: &[u32],
 ) -> Answer
-    ensures { λ r. ⌜ r ≡ nodeAnswer limits plan id n ramp floats (now (words .entry)) ⌝ }
+    ensures { λ r. ⌜ r ≡ nodeAnswer limits plan id n ramp safe floats (now (words .entry)) ⌝ }
 {
     if let Answer::Refused(r) = limits_answer(limits, plan, node_growth()) {
         return Answer::Refused(r);
@@ -82,6 +83,9 @@ pub fn node_answer(
     }
     if ramp > Node::MAX_RAMP {
         return Answer::refused(Refusal::LONG_RAMP);
+    }
+    if safe > Node::MAX_SAFE {
+        return Answer::refused(Refusal::BAD_NODE);
     }
     Answer::Accepted
 }

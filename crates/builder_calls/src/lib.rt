@@ -143,19 +143,20 @@ impl PlanBuilder {
         }
     }
 
-    // A node at zero, set to the values over the ramp: with one above 0 it fades in.
+    // A node at zero, set to the values over the ramp: with one above 0 it fades in. With a safe of 1 no adoption touches it.
     pub fn node(
         plan: Plan,
         id: u32,
         values: &[f32],
         ramp: u32,
+        safe: u32,
         floats: &mut [f32],
         words: &mut [u32],
     ) -> Numbered
-        ensures answer { λ r. ⌜ r .answer ≡ nodeNumber unitLimits plan id (length (now (values .entry))) ramp (length (now (floats .entry))) (now (words .entry)) ⌝ }
-        ensures plan { λ r. ⌜ r .plan ≡ planAfter (nodeAnswer unitLimits plan id (length (now (values .entry))) ramp (length (now (floats .entry))) (now (words .entry))) plan nodeGrowth ⌝ }
-        ensures floats { λ r. ⌜ now (floats .exit) ≡ nodeFloatsArea unitLimits plan id (now (values .entry)) ramp (now (floats .entry)) (now (words .entry)) ⌝ }
-        ensures words { λ r. ⌜ now (words .exit) ≡ nodeWordsArea unitLimits plan id (now (values .entry)) ramp (now (floats .entry)) (now (words .entry)) ⌝ }
+        ensures answer { λ r. ⌜ r .answer ≡ nodeNumber unitLimits plan id (length (now (values .entry))) ramp safe (length (now (floats .entry))) (now (words .entry)) ⌝ }
+        ensures plan { λ r. ⌜ r .plan ≡ planAfter (nodeAnswer unitLimits plan id (length (now (values .entry))) ramp safe (length (now (floats .entry))) (now (words .entry))) plan nodeGrowth ⌝ }
+        ensures floats { λ r. ⌜ now (floats .exit) ≡ nodeFloatsArea unitLimits plan id (now (values .entry)) ramp safe (now (floats .entry)) (now (words .entry)) ⌝ }
+        ensures words { λ r. ⌜ now (words .exit) ≡ nodeWordsArea unitLimits plan id (now (values .entry)) ramp safe (now (floats .entry)) (now (words .entry)) ⌝ }
     {
         match builder_answers::node_answer(
             Limits::UNIT,
@@ -163,6 +164,7 @@ impl PlanBuilder {
             id,
             values.len(),
             ramp,
+            safe,
             floats.len(),
             &words[..],
         ) {
@@ -172,7 +174,7 @@ impl PlanBuilder {
             },
             Answer::Accepted => {
                 let n = plan.nodes;
-                node_areas::store(Node::new(id, values, ramp), floats, words, n);
+                node_areas::store(Node::new(id, values, ramp, safe), floats, words, n);
                 let mut grown = plan;
                 grown.nodes = n + 1;
                 Numbered {

@@ -41,7 +41,7 @@ abbrev pub RampIs : ℕ → List BuilderCall → Type 0
 RampIs r [] = Unit {0}
 RampIs r (buffers n ∷ cs) = RampIs r cs
 RampIs r (coefficients xs ∷ cs) = RampIs r cs
-RampIs r (node id xs ramp ∷ cs) = (ramp ≡ r) × RampIs r cs
+RampIs r (node id xs ramp safe ∷ cs) = (ramp ≡ r) × RampIs r cs
 RampIs r (step w ∷ cs) = RampIs r cs
 
 -- ---- the identity fold
@@ -112,11 +112,11 @@ narrow n len h = le-ltb maxValues (min len n) (omega arith)
 module _ (ramp : ℕ) (r : rampTooLong ramp ≡ false) where
   gain-good : (id : ℕ) (gain : Float) (number : ℕ) (src dst : Span) → dst .len ≤ 12 → AllGood (gainCalls id gain ramp number src dst)
   unfolding readAt stepOf ones onesIn tooWide
-  gain-good id gain number src dst h = ((few (dst .len) gain h, r), (tt, ((refl, (narrow (dst .len) (src .len) h, tt)), tt)))
+  gain-good id gain number src dst h = ((few (dst .len) gain h, r, refl), (tt, ((refl, (narrow (dst .len) (src .len) h, tt)), tt)))
 
   send-good : (id number : ℕ) (src dst weights : Span) → AllGood (sendCalls id ramp number src dst weights)
   unfolding readAt stepOf ones onesIn tooWide
-  send-good id number src dst weights = ((refl, r), ((refl, (refl, tt)), tt))
+  send-good id number src dst weights = ((refl, r, refl), ((refl, (refl, tt)), tt))
 
 patches-good : (input channel dst n : ℕ) → AllGood (patches input channel dst n)
 unfolding readAt stepOf ones onesIn tooWide

@@ -17,10 +17,14 @@ use Rattle.insert.specs.declared.InsertPoint.{InsertPoint}
 
 -- ---- parts
 
+-- the word safe of its nodes, by request C-13: "An insert's nodes have 0."
+abbrev pub insertSafe : ℕ
+insertSafe = 0
+
 -- a Gain with its own node, into fresh buffers: the Rust's `gain`
 abbrev pub gainCalls : (id : ℕ) (gain : Float) (ramp number : ℕ) (src dst : Span) → List BuilderCall
 gainCalls id gain ramp number src dst =
-    node id (replicate (dst .len) gain) ramp
+    node id (replicate (dst .len) gain) ramp insertSafe
     ∷ buffers (dst .len)
     ∷ step (gainMap ∷ number ∷ src .start ∷ src .len ∷ dst .start ∷ dst .len ∷ [])
     ∷ []
@@ -33,7 +37,7 @@ patches input channel dst (suc n) = step (patchMap ∷ input ∷ channel ∷ dst
 -- a Send with its own node, of the one value 1
 abbrev pub sendCalls : (id ramp number : ℕ) (src dst weights : Span) → List BuilderCall
 sendCalls id ramp number src dst weights =
-    node id (one32 ∷ []) ramp
+    node id (one32 ∷ []) ramp insertSafe
     ∷ step (sendMap ∷ number ∷ src .start ∷ src .len ∷ dst .start ∷ dst .len ∷ weights .start ∷ weights .len ∷ [])
     ∷ []
 

@@ -24,6 +24,9 @@ const HEARD: f32 = 1.0;
 
 const NOT_HEARD: f32 = 0.0;
 
+// The safe of an insert's nodes.
+const SAFE: u32 = 0;
+
 // The gain of the dry and of the wet path.
 fn dry_gain(bypass: bool) -> f32
     ensures { λ r. ⌜ r ≡ dryGain bypass ⌝ }
@@ -81,7 +84,7 @@ fn add_gain(
         dst.start,
         dst.len,
     ];
-    let noded = PlanBuilder::node(plan, id, &values[..n], ramp, floats, words);
+    let noded = PlanBuilder::node(plan, id, &values[..n], ramp, SAFE, floats, words);
     let one = noded.plan;
     let buffered = PlanBuilder::buffers(one, n, indices);
     let two = buffered.plan;
@@ -131,7 +134,7 @@ fn add_send(
         weights.start,
         weights.len,
     ];
-    let noded = PlanBuilder::node(plan, id, &values[..], ramp, floats, words);
+    let noded = PlanBuilder::node(plan, id, &values[..], ramp, SAFE, floats, words);
     let one = noded.plan;
     let stepped = PlanBuilder::step(one, &record[..], steps);
     stepped.plan

@@ -76,14 +76,15 @@ pub extern "C" fn mixer_node(
     id: u32,
     values: &[f32],
     ramp: u32,
+    safe: u32,
     node_floats: &mut [f32],
     node_words: &mut [u32],
 ) -> NodeReply
-    ensures reply { λ r. ⌜ r ≡ nodeReply (planAfter (nodeAnswer unitLimits plan id (length (now (values .entry))) ramp (length (now («node_floats» .entry))) (now («node_words» .entry))) plan nodeGrowth) (nodeNumber unitLimits plan id (length (now (values .entry))) ramp (length (now («node_floats» .entry))) (now («node_words» .entry))) ⌝ }
-    ensures floats { λ _. ⌜ now («node_floats» .exit) ≡ nodeFloatsArea unitLimits plan id (now (values .entry)) ramp (now («node_floats» .entry)) (now («node_words» .entry)) ⌝ }
-    ensures words { λ _. ⌜ now («node_words» .exit) ≡ nodeWordsArea unitLimits plan id (now (values .entry)) ramp (now («node_floats» .entry)) (now («node_words» .entry)) ⌝ }
+    ensures reply { λ r. ⌜ r ≡ nodeReply (planAfter (nodeAnswer unitLimits plan id (length (now (values .entry))) ramp safe (length (now («node_floats» .entry))) (now («node_words» .entry))) plan nodeGrowth) (nodeNumber unitLimits plan id (length (now (values .entry))) ramp safe (length (now («node_floats» .entry))) (now («node_words» .entry))) ⌝ }
+    ensures floats { λ _. ⌜ now («node_floats» .exit) ≡ nodeFloatsArea unitLimits plan id (now (values .entry)) ramp safe (now («node_floats» .entry)) (now («node_words» .entry)) ⌝ }
+    ensures words { λ _. ⌜ now («node_words» .exit) ≡ nodeWordsArea unitLimits plan id (now (values .entry)) ramp safe (now («node_floats» .entry)) (now («node_words» .entry)) ⌝ }
 {
-    let made = PlanBuilder::node(plan, id, values, ramp, node_floats, node_words);
+    let made = PlanBuilder::node(plan, id, values, ramp, safe, node_floats, node_words);
     let grown = made.plan;
     let answer = made.answer;
     node_reply(grown, answer)

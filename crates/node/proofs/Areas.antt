@@ -1,6 +1,6 @@
 -- The lent areas as nodes: what is read after a store, at the same number and at another. Assumes nothing.
 use Prim.Native.Nat.{ℕ, zero, suc, _+_, _*_, _<_, _≤_}
-use native.Mathlib.Nat.{add-zero, not-suc-le-zero}
+use native.Mathlib.Nat.{add-zero, not-suc-le-zero, le-of-suc-le-suc}
 use native.Mathlib.Omega.{arith}
 use native.Mathlib.Decide.{decLt, ℕ-discrete}
 use mathlib.Core.Logic.{inl, inr}
@@ -13,7 +13,7 @@ use Rattle.lists.specs.Parts.{part}
 use Rattle.lists.proofs.Stores.{length-part, sets-append, getD-sets, getD-sets-at, part-sets-before, part-sets-after, part-sets-same}
 use Rattle.node.specs.Sizes.{maxValues, nodeFloats, nodeWords}
 use Rattle.node.specs.Nodes.{Full, gainAt, gainOf}
-use Rattle.node.specs.Areas.{Room, idAt, lenAt, leftAt, curAt, targetAt, stepAt, nodeAt, nodes, floatsOf, wordsOf, storedFloats, storedWords}
+use Rattle.node.specs.Areas.{Room, idAt, lenAt, leftAt, safeAt, curAt, targetAt, stepAt, nodeAt, nodes, floatsOf, wordsOf, storedFloats, storedWords}
 use Rattle.node.specs.declared.Node.{Node}
 
 -- ---- lengths
@@ -28,6 +28,11 @@ pub length-stored-words : (words : List ℕ) (n : ℕ) (node : Node) → length 
 length-stored-words words n node = length-sets words (n * nodeWords) (wordsOf node)
 
 -- ---- the words after a store
+past-end : (l : List ℕ) (i : ℕ) → length l ≤ i → getD l i 0 ≡ 0
+past-end [] i h = refl
+past-end (x ∷ l) zero h = absurd (not-suc-le-zero h)
+past-end (x ∷ l) (suc i) h = past-end l i (le-of-suc-le-suc h)
+
 module _ (words : List ℕ) (n : ℕ) (node : Node) where
   word-same : (j : ℕ) → j < nodeWords → (n + 1) * nodeWords ≤ length words
       → getD (storedWords words n node) (n * nodeWords + j) 0 ≡ getD (wordsOf node) j 0
@@ -46,6 +51,10 @@ module _ (words : List ℕ) (n : ℕ) (node : Node) where
   unfolding wordsOf
   left-stored r = word-same 2 (omega arith) r
 
+  pub safe-stored : (n + 1) * nodeWords ≤ length words → safeAt (storedWords words n node) n ≡ node .safe
+  unfolding wordsOf
+  safe-stored r = word-same 3 (omega arith) r
+
   -- a word of another node
   pub word-other : (m j : ℕ) → (m ≡ n → ⊥) → j < nodeWords → getD (storedWords words n node) (m * nodeWords + j) 0 ≡ getD words (m * nodeWords + j) 0
   unfolding wordsOf
@@ -54,6 +63,23 @@ module _ (words : List ℕ) (n : ℕ) (node : Node) where
       go : Dec (m < n) → getD (storedWords words n node) (m * nodeWords + j) 0 ≡ getD words (m * nodeWords + j) 0
       go (yes p) = getD-sets (m * nodeWords + j) words (n * nodeWords) (wordsOf node) 0 (inl (omega arith))
       go (no p) = getD-sets (m * nodeWords + j) words (n * nodeWords) (wordsOf node) 0 (inr (omega arith))
+
+  -- A word that is stored as it was is the same of every node after it, also where the area ends before it.
+  pub word-stays : (m j : ℕ) → j < nodeWords → getD (wordsOf node) j 0 ≡ getD words (n * nodeWords + j) 0
+      → getD (storedWords words n node) (m * nodeWords + j) 0 ≡ getD words (m * nodeWords + j) 0
+  unfolding wordsOf
+  word-stays m j l e = go (ℕ-discrete m n)
+    where
+      k : ℕ
+      k = n * nodeWords + j
+
+      same : Dec (k < length words) → getD (storedWords words n node) k 0 ≡ getD words k 0
+      same (yes p) = getD-sets-at words (n * nodeWords) j (wordsOf node) 0 l p ∙ e
+      same (no p) = past-end (storedWords words n node) k (rw length-stored-words (omega arith)) ∙ sym (past-end words k (omega arith))
+
+      go : Dec (m ≡ n) → getD (storedWords words n node) (m * nodeWords + j) 0 ≡ getD words (m * nodeWords + j) 0
+      go (yes p) = rw p (same (decLt k (length words)))
+      go (no p) = word-other m j p l
 
 -- ---- the floats after a store: three rows one after the other
 module _ (floats : List Float) (n : ℕ) (node : Node) where
@@ -111,6 +137,7 @@ module _ (floats : List Float) (words : List ℕ) (n : ℕ) (node : Node) (full 
         id-stored words n node (r .1),
         len-stored words n node (r .1),
         left-stored words n node (r .1),
+        safe-stored words n node (r .1),
       )
 
   pub stored-other : (m : ℕ) → (m ≡ n → ⊥) → nodeAt (storedFloats floats n node) (storedWords words n node) m ≡ nodeAt floats words m
@@ -123,6 +150,7 @@ module _ (floats : List Float) (words : List ℕ) (n : ℕ) (node : Node) (full 
         rw add-zero at (word-other words n node m 0 h (omega arith)),
         word-other words n node m 1 h (omega arith),
         word-other words n node m 2 h (omega arith),
+        word-other words n node m 3 h (omega arith),
       )
 
 -- ---- the list of the first count nodes

@@ -1,4 +1,4 @@
--- A node has three full rows after each call, and set and a block's end keep its id and its len. Assumes nothing.
+-- A node has three full rows after each call, and set and a block's end keep its id, its len and its safe. Assumes nothing.
 use Prim.Native.Nat.{ℕ, _+_, _-_, _*_, _≤_, min}
 use native.Mathlib.Omega.{arith}
 use mathlib.Core.Path.{_≡_, refl, _∙_}
@@ -42,9 +42,9 @@ full-set n values r f =
     (record { cur = t; target = t; step = f .step })
     (record { cur = f .cur; target = t; step = length-upto (stepOver m r) (n .len) (n .step) ∙ f .step })
 
-pub full-new : (id : ℕ) (values : List Float) (r : ℕ) → Full (newNode id values r)
+pub full-new : (id : ℕ) (values : List Float) (r safe : ℕ) → Full (newNode id values r safe)
 unfolding newNode
-full-new id values r = full-set (zeroNode id (min (length values) maxValues)) values r (record { cur = refl; target = refl; step = refl })
+full-new id values r safe = full-set (zeroNode id (min (length values) maxValues) safe) values r (record { cur = refl; target = refl; step = refl })
 
 pub full-finish : (n : Node) (block : ℕ) → Full n → Full (finishBlock n block)
 full-finish n block f =
@@ -61,13 +61,13 @@ full-load floats words n h =
       step = length-part (n * nodeFloats + 2 * maxValues) maxValues floats (omega arith);
     }
 
--- ---- the len and the id
+-- ---- the len, the id and the safe
 pub len-set : (n : Node) (values : List Float) (r : ℕ) → setNode n values r .len ≡ n .len
 len-set n values r = of-set (λ (x : Node). x .len ≡ n .len) n values r refl refl
 
-pub len-new : (id : ℕ) (values : List Float) (r : ℕ) → newNode id values r .len ≡ min (length values) maxValues
+pub len-new : (id : ℕ) (values : List Float) (r safe : ℕ) → newNode id values r safe .len ≡ min (length values) maxValues
 unfolding newNode
-len-new id values r = len-set (zeroNode id (min (length values) maxValues)) values r
+len-new id values r safe = len-set (zeroNode id (min (length values) maxValues) safe) values r
 
 pub len-finish : (n : Node) (block : ℕ) → finishBlock n block .len ≡ n .len
 len-finish n block = of-finish (λ (x : Node). x .len ≡ n .len) n block refl refl (λ (m : ℕ). refl)
@@ -75,9 +75,19 @@ len-finish n block = of-finish (λ (x : Node). x .len ≡ n .len) n block refl r
 pub id-set : (n : Node) (values : List Float) (r : ℕ) → setNode n values r .id ≡ n .id
 id-set n values r = of-set (λ (x : Node). x .id ≡ n .id) n values r refl refl
 
-pub id-new : (id : ℕ) (values : List Float) (r : ℕ) → newNode id values r .id ≡ id
+pub id-new : (id : ℕ) (values : List Float) (r safe : ℕ) → newNode id values r safe .id ≡ id
 unfolding newNode
-id-new id values r = id-set (zeroNode id (min (length values) maxValues)) values r
+id-new id values r safe = id-set (zeroNode id (min (length values) maxValues) safe) values r
 
 pub id-finish : (n : Node) (block : ℕ) → finishBlock n block .id ≡ n .id
 id-finish n block = of-finish (λ (x : Node). x .id ≡ n .id) n block refl refl (λ (m : ℕ). refl)
+
+pub safe-set : (n : Node) (values : List Float) (r : ℕ) → setNode n values r .safe ≡ n .safe
+safe-set n values r = of-set (λ (x : Node). x .safe ≡ n .safe) n values r refl refl
+
+pub safe-new : (id : ℕ) (values : List Float) (r safe : ℕ) → newNode id values r safe .safe ≡ safe
+unfolding newNode
+safe-new id values r safe = safe-set (zeroNode id (min (length values) maxValues) safe) values r
+
+pub safe-finish : (n : Node) (block : ℕ) → finishBlock n block .safe ≡ n .safe
+safe-finish n block = of-finish (λ (x : Node). x .safe ≡ n .safe) n block refl refl (λ (m : ℕ). refl)

@@ -36,9 +36,9 @@ left-set n values r = go (eqb r 0) refl
     go true e = rw e (omega (arith, eqb-true r 0 e))
     go false e = rw e
 
-pub left-new : (id : ℕ) (values : List Float) (r : ℕ) → newNode id values r .left ≡ r
+pub left-new : (id : ℕ) (values : List Float) (r safe : ℕ) → newNode id values r safe .left ≡ r
 unfolding newNode
-left-new id values r = left-set _ values r
+left-new id values r safe = left-set _ values r
 
 pub left-finish : (n : Node) (block : ℕ) → finishBlock n block .left ≡ n .left - block
 unfolding finishBlock

@@ -7,7 +7,7 @@ use lib.ListN.{length, getD}
 use lib.Seq.{sets}
 use lib.Ieee.{Float}
 use Rattle.lists.specs.Parts.{part}
-use Rattle.node.specs.Sizes.{maxValues, nodeFloats, nodeWords, maxRamp}
+use Rattle.node.specs.Sizes.{maxValues, nodeFloats, nodeWords, maxRamp, maxSafe, safeTooHigh}
 use Rattle.node.specs.declared.Node.{Node}
 use Rattle.node.specs.Nodes.{finishBlock}
 
@@ -15,7 +15,7 @@ use Rattle.node.specs.Nodes.{finishBlock}
 abbrev pub Room : ℕ → List Float → List ℕ → Type 0
 Room count floats words = (count * nodeFloats ≤ length floats) × (count * nodeWords ≤ length words)
 
--- ---- reading: "72 floats (cur, target, step) and three u32 (id, len, left)"
+-- ---- reading: "72 floats (cur, target, step) and three u32 (id, len, left)", and by request C-13 "a fourth u32, safe"
 
 abbrev pub idAt : List ℕ → ℕ → ℕ
 idAt words n = getD words (n * nodeWords) 0
@@ -25,6 +25,9 @@ lenAt words n = getD words (n * nodeWords + 1) 0
 
 abbrev pub leftAt : List ℕ → ℕ → ℕ
 leftAt words n = getD words (n * nodeWords + 2) 0
+
+abbrev pub safeAt : List ℕ → ℕ → ℕ
+safeAt words n = getD words (n * nodeWords + 3) 0
 
 abbrev pub curAt : List Float → ℕ → List Float
 curAt floats n = part (n * nodeFloats) maxValues floats
@@ -45,6 +48,7 @@ nodeAt floats words n =
       target = targetAt floats n;
       step = stepAt floats n;
       left = leftAt words n;
+      safe = safeAt words n;
     }
 
 -- the first count nodes
@@ -58,7 +62,7 @@ unfoldable pub floatsOf : Node → List Float
 floatsOf node = node .cur ++ node .target ++ node .step
 
 unfoldable pub wordsOf : Node → List ℕ
-wordsOf node = node .id ∷ node .len ∷ node .left ∷ []
+wordsOf node = node .id ∷ node .len ∷ node .left ∷ node .safe ∷ []
 
 -- the areas with node n replaced
 abbrev pub storedFloats : List Float → ℕ → Node → List Float
@@ -71,18 +75,19 @@ storedWords words n node = sets words (n * nodeWords) (wordsOf node)
 abbrev pub ended : ℕ → List Float → List ℕ → ℕ → Node
 ended block floats words n = finishBlock (nodeAt floats words n) block
 
--- ---- number 14: "any lent node, used or not, new or old, with len above 24 or left above 16,777,216"
+-- ---- number 14: "any lent node, used or not, new or old, with len above 24 or left above 16,777,216", and by request C-13 with a safe above 1
 
--- a node with this len and this left is bad
-unfoldable pub isBad : ℕ → ℕ → Bool
-isBad len left = ltb maxValues len || ltb maxRamp left
+-- a node with this len, this left and this safe is bad
+unfoldable pub isBad : ℕ → ℕ → ℕ → Bool
+isBad len left safe = ltb maxValues len || ltb maxRamp left || safeTooHigh safe
 
 -- what the test lets pass
 pub record InRange (node : Node) : Type 0 where
   pub len : node .len ≤ maxValues
   pub left : node .left ≤ maxRamp
+  pub safe : node .safe ≤ maxSafe
 
 -- one of the first count nodes, by its words
 unfoldable pub someBad : List ℕ → ℕ → Bool
 someBad words zero = false
-someBad words (suc n) = someBad words n || isBad (lenAt words n) (leftAt words n)
+someBad words (suc n) = someBad words n || isBad (lenAt words n) (leftAt words n) (safeAt words n)

@@ -31,9 +31,10 @@ pub record Full (n : Node) : Type 0 where
   pub target : length (n .target) ≡ maxValues
   pub step : length (n .step) ≡ maxValues
 
--- n with other rows and another left; its id and its len stay
+-- n with other rows and another left; its id, its len and its safe stay
 abbrev pub changed : Node → List Float → List Float → List Float → ℕ → Node
-changed n cur target step left = record { id = n .id; len = n .len; cur = cur; target = target; step = step; left = left }
+changed n cur target step left =
+    record { id = n .id; len = n .len; cur = cur; target = target; step = step; left = left; safe = n .safe }
 
 -- ---- set
 
@@ -61,12 +62,12 @@ setNode n values r = cond (eqb r 0) (atTarget (withTarget n values)) (startRamp 
 abbrev pub zeros : List Float
 zeros = replicate maxValues (f32 0)
 
-abbrev pub zeroNode : ℕ → ℕ → Node
-zeroNode id len = record { id = id; len = len; cur = zeros; target = zeros; step = zeros; left = 0 }
+abbrev pub zeroNode : ℕ → ℕ → ℕ → Node
+zeroNode id len safe = record { id = id; len = len; cur = zeros; target = zeros; step = zeros; left = 0; safe = safe }
 
 -- "New: all zero, then set." Of more than 24 values the first 24 count.
-unfoldable pub newNode : ℕ → List Float → ℕ → Node
-newNode id values r = setNode (zeroNode id (min (length values) maxValues)) values r
+unfoldable pub newNode : ℕ → List Float → ℕ → ℕ → Node
+newNode id values r safe = setNode (zeroNode id (min (length values) maxValues) safe) values r
 
 -- ---- one gain
 

@@ -11,9 +11,9 @@ maxValues = 24
 abbrev pub nodeFloats : ℕ
 nodeFloats = 72
 
--- the words of a node in the lent areas: id, len, left
+-- the words of a node in the lent areas: id, len, left, safe
 abbrev pub nodeWords : ℕ
-nodeWords = 3
+nodeWords = 4
 
 -- the samples of the longest ramp: an f32 holds every whole number up to it
 abbrev pub maxRamp : ℕ
@@ -22,3 +22,11 @@ maxRamp = 16777216
 -- the test of number 10: "ramp too long"
 abbrev pub rampTooLong : ℕ → Bool
 rampTooLong ramp = ltb maxRamp ramp
+
+-- the word safe of a node that no adoption touches, a term of request C-13, and the highest that it can be: "safe, 0 or 1"
+abbrev pub maxSafe : ℕ
+maxSafe = 1
+
+-- "any other value is 14"
+abbrev pub safeTooHigh : ℕ → Bool
+safeTooHigh safe = ltb maxSafe safe

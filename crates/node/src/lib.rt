@@ -17,6 +17,8 @@ pub struct Node {
     pub step: [f32; Node::MAX],
     // The samples of the ramp that are left; at 0 the node is at rest.
     pub left: u32,
+    // Where it is not 0, no adoption touches the node: at most MAX_SAFE, but for a bad node of the lent areas.
+    pub safe: u32,
 }
 
 // One gain of a node: at rest, with its target, or ramping, with cur, step, target and left.
@@ -38,15 +40,17 @@ impl Node {
     // Of a node in the lent areas.
     pub const FLOATS: usize = 72;
 
-    pub const WORDS: usize = 3;
+    pub const WORDS: usize = 4;
 
     // In samples: an f32 holds every whole number up to it.
     pub const MAX_RAMP: u32 = 16_777_216;
 
+    pub const MAX_SAFE: u32 = 1;
+
     // A node at zero, set to `values`. Requires a ramp that is not too long.
-    pub fn new(id: u32, values: &[f32], ramp: u32) -> Node
+    pub fn new(id: u32, values: &[f32], ramp: u32, safe: u32) -> Node
         requires { ⌜ ramp ≤ maxRamp ⌝ }
-        ensures { λ r. ⌜ r ≡ newNode id (now (values .entry)) ramp ⌝ }
+        ensures { λ r. ⌜ r ≡ newNode id (now (values .entry)) ramp safe ⌝ }
     {
         let zeros = [0.0f32; Node::MAX];
         let node = Node {
@@ -56,6 +60,7 @@ impl Node {
             target: zeros,
             step: zeros,
             left: 0,
+            safe,
         };
         node.set(values, ramp)
     }

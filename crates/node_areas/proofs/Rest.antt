@@ -3,12 +3,12 @@
 use mathlib.Core.Path.{_≡_, sym, ap, _∙_}
 use mathlib.Core.List.{List, [], _∷_, _++_, append-assoc}
 use mathlib.Core.Logic.{inr}
-use Prim.Native.Nat.{ℕ, _+_, _-_, _*_, _≤_, _<_, min}
+use Prim.Native.Nat.{ℕ, suc, _+_, _-_, _*_, _≤_, _<_, min}
 use native.Mathlib.Nat.{le-refl, zero-add, suc-add}
 use native.Mathlib.Numerals.{unary-clauses}
 use native.Mathlib.Omega.{arith}
 use lib.ListN.{length, getD, take, drop, set, length-set, length-append, take-append-drop}
-use lib.Seq.{sets, length-sets, sets-eq, set-getD, set-append-left, drop-drop, getD-take, getD-drop, length-take-le}
+use lib.Seq.{sets, length-sets, sets-eq, getD-set-other, set-getD, set-append-left, drop-drop, getD-take, getD-drop, length-take-le}
 use lib.Ieee.{Float, nan}
 use borrow.Author.Tests.{ne-eqb}
 use Rattle.lists.specs.Parts.{part}
@@ -53,6 +53,10 @@ set-sets {A} l vs k i a h r =
     ∙ ap (λ (z : List A). z ++ rest) (set-after (take k l) vs i a)
     ∙ ap (λ (n : ℕ). take k l ++ set vs i a ++ drop (k + n) l) (sym (length-set vs i a))
     ∙ sym (sets-eq (set vs i a) l k (omega (arith, length-set vs i a)))
+
+-- an entry that is stored where it is, behind one that is stored anew
+after-set : (l : List ℕ) (k a : ℕ) → set (set l k a) (suc k) (getD l (suc k) 0) ≡ set l k a
+after-set l k a = ap (set (set l k a) (suc k)) (sym (getD-set-other l k (suc k) a 0 (λ e. omega (arith, e)))) ∙ set-getD (set l k a) (suc k) 0
 
 -- ---- the row cur, turn by turn
 module _ (floats : List Float) (k m : ℕ) (room : k + nodeFloats ≤ length floats) where
@@ -113,7 +117,7 @@ module _ (floats : List Float) (words : List ℕ) (n : ℕ) (room : Room (n + 1)
   left-alone : (cur : List Float) (left : ℕ)
       → (let node = nodeAt floats words n in storedWords words n (changed node cur (node .target) (node .step) left) ≡ set words (n * nodeWords + 2) left)
   unfolding wordsOf nodeAt
-  left-alone cur left = simp (unary-clauses, set-getD)
+  left-alone cur left = simp (unary-clauses, set-getD) (after-set words (suc (suc (n * nodeWords))) left)
 
   module _ (block : ℕ) (e : leftAt words n ≡ 0) where
     same-node : finishBlock (nodeAt floats words n) block ≡ nodeAt floats words n

@@ -1,4 +1,4 @@
-// Nodes in their lent areas: 72 floats (cur, target, step) and three u32 (id, len, left) each.
+// Nodes in their lent areas: 72 floats (cur, target, step) and four u32 (id, len, left, safe) each.
 // All of it is for the crates above and not the interface: a function that has a `requires` says in its comment what it takes.
 use node::Node;
 ghost use mathlib.Core.Path.{_≡_};
@@ -18,6 +18,8 @@ const STEP: usize = 2 * Node::MAX;
 const LEN: usize = 1;
 
 const LEFT: usize = 2;
+
+const SAFE: usize = 3;
 
 // ---- what the areas hold of node n. Each requires an area that reaches past the node.
 
@@ -113,6 +115,7 @@ pub fn load(floats: &[f32], words: &[u32], n: usize) -> Node
         target,
         step,
         left: words[w + LEFT],
+        safe: words[w + SAFE],
     }
 }
 
@@ -133,6 +136,7 @@ pub fn store(node: Node, floats: &mut [f32], words: &mut [u32], n: usize)
     words[w] = node.id;
     words[w + LEN] = node.len;
     words[w + LEFT] = node.left;
+    words[w + SAFE] = node.safe;
 }
 
 // The row cur that starts at `at`, m samples of a ramp later, below len. Requires floats that reach past its node, a len of at most MAX, and
@@ -176,7 +180,10 @@ pub fn any_bad(words: &[u32], count: usize) -> bool
 {
     for i in 0..count {
         let w = i * Node::WORDS;
-        if (words[w + LEN] > Node::MAX as u32) | (words[w + LEFT] > Node::MAX_RAMP) {
+        if (words[w + LEN] > Node::MAX as u32)
+            | (words[w + LEFT] > Node::MAX_RAMP)
+            | (words[w + SAFE] > Node::MAX_SAFE)
+        {
             return true;
         }
     }

@@ -33,7 +33,7 @@ case-11-block-refused = refl
 abbrev matrixOf : ℕ → ℕ → Answer
 matrixOf columns rows =
     checkPlan (planWith 1 14 14 0 1 1 6)
-    (areas (0 ∷ 1 ∷ 2 ∷ 3 ∷ 4 ∷ 5 ∷ 6 ∷ 7 ∷ 8 ∷ 9 ∷ 10 ∷ 11 ∷ 12 ∷ 13 ∷ []) [] (floatsOf (zeroNode 5 24)) (wordsOf (zeroNode 5 24))
+    (areas (0 ∷ 1 ∷ 2 ∷ 3 ∷ 4 ∷ 5 ∷ 6 ∷ 7 ∷ 8 ∷ 9 ∷ 10 ∷ 11 ∷ 12 ∷ 13 ∷ []) [] (floatsOf (zeroNode 5 24 0)) (wordsOf (zeroNode 5 24 0))
     (matrixMap ∷ 0 ∷ 0 ∷ columns ∷ columns ∷ rows ∷ []) (replicate 14 nan))
 
 pub case-11-matrix-taken : matrixOf 12 2 ≡ Accepted

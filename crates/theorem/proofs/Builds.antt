@@ -36,9 +36,9 @@ NodeRoom s = s .plan .nodes * nodeWords ≤ length (s .words)
 room-kept : (l : Limits) (s : BuilderState) (c : BuilderCall) → answer l s c ≡ Accepted → NodeRoom s → NodeRoom (after l s c)
 room-kept l s (buffers n) e r = rw (plan-accepted (s .plan) (buffersGrowth n) e) r
 room-kept l s (coefficients xs) e r = rw (plan-accepted (s .plan) (coefficientsGrowth (length xs)) e) r
-room-kept l s (node id xs ramp) e r =
-    rw (plan-accepted (s .plan) nodeGrowth e, accepted-kept l s (node id xs ramp) e .words .length)
-    (node-fits l (s .plan) id (length xs) ramp (length (s .floats)) (s .words) e .words)
+room-kept l s (node id xs ramp safe) e r =
+    rw (plan-accepted (s .plan) nodeGrowth e, accepted-kept l s (node id xs ramp safe) e .words .length)
+    (node-fits l (s .plan) id (length xs) ramp safe (length (s .floats)) (s .words) e .words)
 room-kept l s (step w) e r = rw (plan-accepted (s .plan) (stepGrowth (recordLength w)) e) r
 
 -- ---- the draft of a build
@@ -69,15 +69,15 @@ drafted-rest : (cs : List BuilderCall) (d : Draft) → AtRest (d .nodes) → Ram
 drafted-rest [] d r f = r
 drafted-rest (buffers n ∷ cs) d r f = drafted-rest cs (given d (buffers n)) r f
 drafted-rest (coefficients xs ∷ cs) d r f = drafted-rest cs (given d (coefficients xs)) r f
-drafted-rest (node id values ramp ∷ cs) d r f =
-    drafted-rest cs (given d (node id values ramp)) (snoc-rest (d .nodes) (newNode id values ramp) r (left-new id values ramp ∙ f .0)) (f .1)
+drafted-rest (node id values ramp safe ∷ cs) d r f =
+    drafted-rest cs (given d (node id values ramp safe)) (snoc-rest (d .nodes) (newNode id values ramp safe) r (left-new id values ramp safe ∙ f .0)) (f .1)
 drafted-rest (step w ∷ cs) d r f = drafted-rest cs (given d (step w)) r f
 
 layout-rest : (cs : List LayoutCall) (d : Draft) → AtRest (d .nodes) → NoRampBuilt cs → AtRest (layoutDrafted d cs .nodes)
 layout-rest [] d r f = r
 layout-rest (single (buffers n) ∷ cs) d r f = layout-rest cs (given d (buffers n)) r f
 layout-rest (single (coefficients xs) ∷ cs) d r f = layout-rest cs (given d (coefficients xs)) r f
-layout-rest (single (node id values ramp) ∷ cs) d r f = layout-rest cs (given d (node id values ramp)) (drafted-rest (node id values ramp ∷ []) d r (f .0, tt)) (f .1)
+layout-rest (single (node id values ramp safe) ∷ cs) d r f = layout-rest cs (given d (node id values ramp safe)) (drafted-rest (node id values ramp safe ∷ []) d r (f .0, tt)) (f .1)
 layout-rest (single (step w) ∷ cs) d r f = layout-rest cs (given d (step w)) r f
 layout-rest (insert i ∷ cs) d r f =
     let calls = insertCalls (counts d) i in

@@ -26,7 +26,7 @@ doubled =
     record {
       block = 1;
       lent = lentFor 2 0 1 14 2;
-      calls = singles (buffers 2 ∷ node 7 (two ∷ []) 0 ∷ patchStep 0 0 0 ∷ gainStep 0 0 1 1 1 ∷ outputStep 1 1 0 ∷ []);
+      calls = singles (buffers 2 ∷ node 7 (two ∷ []) 0 0 ∷ patchStep 0 0 0 ∷ gainStep 0 0 1 1 1 ∷ outputStep 1 1 0 ∷ []);
     }
 
 plain-built : BuiltBy plain (plain .calls)

@@ -21,10 +21,10 @@ use Rattle.theorem.specs.Statement.{Lists, firstJournal, secondJournal, 
 use Rattle.theorem.proofs.ExampleParts.{definitions, one, two, three, four, six, eight, twentyFour, thirtyTwo, lentFor, singles, patchStep, gainStep, matrixStep, clearStep, sendStep, outputStep, BuiltBy, Journals, someChannelFrom, Carries, carries-of, one-listed}
 
 -- ---- the plan: the two channels of input 0 are added (buffer 2), scaled (buffer 3) and sent with weight 2 (buffer 4), and the last two buffers
--- are written to slot 0; input 3 is written to slot 1
+-- are written to slot 0; input 3 is written to slot 1; the node that scales and sends is safe
 
 abbrev tables : List builder.BuilderCall
-tables = buffers 6 ∷ coefficients (two ∷ []) ∷ node 7 (one ∷ []) 0 ∷ node 8 (one ∷ one ∷ []) 0 ∷ []
+tables = buffers 6 ∷ coefficients (two ∷ []) ∷ node 7 (one ∷ []) 0 1 ∷ node 8 (one ∷ one ∷ []) 0 0 ∷ []
 
 abbrev layout : List builder.BuilderCall
 layout =
@@ -43,13 +43,13 @@ layout =
 abbrev first : Build
 first = record { block = 1; lent = lentFor 6 1 2 43 6; calls = singles (buffers 257 ∷ tables ++ step (7 ∷ 0 ∷ []) ∷ layout) }
 
--- refused: more coefficients than the area has places for (2), an id that is taken (8), a map that is not named (3)
+-- refused: more coefficients than the area has places for (2), an id that is taken (8), a safe above 1 (14), a map that is not named (3)
 abbrev second : Build
 second =
     record {
       block = 2;
       lent = lentFor 7 2 3 50 13;
-      calls = singles (tables ++ coefficients (one ∷ one ∷ []) ∷ node 7 (two ∷ []) 5 ∷ layout ++ step (5 ∷ 0 ∷ 0 ∷ []) ∷ []);
+      calls = singles (tables ++ coefficients (one ∷ one ∷ []) ∷ node 7 (two ∷ []) 5 0 ∷ node 9 (two ∷ []) 0 2 ∷ layout ++ step (5 ∷ 0 ∷ 0 ∷ []) ∷ []);
     }
 
 -- refused: an id that is unknown (9), a directory that is not in fours (12), a ramp too long (10); in the last run but one an entry for channel 0 of

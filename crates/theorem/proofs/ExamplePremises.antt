@@ -141,7 +141,7 @@ scaled =
     record {
       block = 1;
       lent = lentFor 2 0 1 14 2;
-      calls = singles (buffers 2 ∷ node 7 (three ∷ []) 0 ∷ patchStep 0 0 0 ∷ gainStep 0 0 1 1 1 ∷ outputStep 1 1 0 ∷ []);
+      calls = singles (buffers 2 ∷ node 7 (three ∷ []) 0 0 ∷ patchStep 0 0 0 ∷ gainStep 0 0 1 1 1 ∷ outputStep 1 1 0 ∷ []);
     }
 
 scaled-built : BuiltBy scaled (scaled .calls)
@@ -198,7 +198,7 @@ fading block =
     record {
       block = block;
       lent = lentFor 3 0 1 20 6;
-      calls = singles (buffers 3 ∷ node 7 (four ∷ []) 4 ∷ patchStep 0 0 0 ∷ gainStep 0 0 1 1 1 ∷ gainStep 0 0 1 2 1 ∷ outputStep 1 2 0 ∷ []);
+      calls = singles (buffers 3 ∷ node 7 (four ∷ []) 4 0 ∷ patchStep 0 0 0 ∷ gainStep 0 0 1 1 1 ∷ gainStep 0 0 1 2 1 ∷ outputStep 1 2 0 ∷ []);
     }
 
 first-fading : BuiltBy (fading 1) (fading 1 .calls)

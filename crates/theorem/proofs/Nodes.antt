@@ -27,7 +27,7 @@ use Rattle.theorem.proofs.Block.{Every}
 
 -- what stands past the end of a list
 abbrev pub nobody : Node
-nobody = zeroNode 0 0
+nobody = zeroNode 0 0 0
 
 abbrev pub nth : List Node → ℕ → Node
 nth ns n = getD ns n nobody

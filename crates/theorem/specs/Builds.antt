@@ -56,6 +56,6 @@ abbrev pub NoRampBuilt : List LayoutCall → Type 0
 NoRampBuilt [] = Unit {0}
 NoRampBuilt (single (buffers n) ∷ cs) = NoRampBuilt cs
 NoRampBuilt (single (coefficients xs) ∷ cs) = NoRampBuilt cs
-NoRampBuilt (single (node id values ramp) ∷ cs) = (ramp ≡ 0) × NoRampBuilt cs
+NoRampBuilt (single (node id values ramp safe) ∷ cs) = (ramp ≡ 0) × NoRampBuilt cs
 NoRampBuilt (single (step words) ∷ cs) = NoRampBuilt cs
 NoRampBuilt (insert i ∷ cs) = (i .ramp ≡ 0) × NoRampBuilt cs

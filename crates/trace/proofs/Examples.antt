@@ -37,7 +37,7 @@ indices = 0 ∷ 1 ∷ []
 
 -- a node of one value
 abbrev nodeWords : List ℕ
-nodeWords = wordsOf (zeroNode 7 1)
+nodeWords = wordsOf (zeroNode 7 1 0)
 
 abbrev steps : ℕ → List ℕ
 steps input =

@@ -39,12 +39,12 @@ roomy c =
     let a = c .before .before .before .before .before .before .before .before .args in
     node-past (a .limits) (a .plan) 0 (a .floats) (length (a .words .now)) ∙ or-is (c .before .before .shorter .ensures) (c .before .shorter2 .ensures) (c .if1 .left)
 
-late : (c : tie.Else1) → nodeAnswer (c .before .before .before .before .before .before .before .before .args .limits) (c .before .before .before .before .before .before .before .before .args .plan) (c .before .before .before .before .before .before .before .before .args .id) (c .before .before .before .before .before .before .before .before .args .n) (c .before .before .before .before .before .before .before .before .args .ramp) (c .before .before .before .before .before .before .before .before .args .floats) (c .before .before .before .before .before .before .before .before .args .words .now)
-    ≡ first (nodeOwn (c .before .before .before .before .before .before .before .before .args .plan) (c .before .before .before .before .before .before .before .before .args .id) (c .before .before .before .before .before .before .before .before .args .n) (c .before .before .before .before .before .before .before .before .args .ramp) (c .before .before .before .before .before .before .before .before .args .words .now)) Accepted
+late : (c : tie.Else1) → nodeAnswer (c .before .before .before .before .before .before .before .before .args .limits) (c .before .before .before .before .before .before .before .before .args .plan) (c .before .before .before .before .before .before .before .before .args .id) (c .before .before .before .before .before .before .before .before .args .n) (c .before .before .before .before .before .before .before .before .args .ramp) (c .before .before .before .before .before .before .before .before .args .safe) (c .before .before .before .before .before .before .before .before .args .floats) (c .before .before .before .before .before .before .before .before .args .words .now)
+    ≡ first (nodeOwn (c .before .before .before .before .before .before .before .before .args .plan) (c .before .before .before .before .before .before .before .before .args .id) (c .before .before .before .before .before .before .before .before .args .n) (c .before .before .before .before .before .before .before .before .args .ramp) (c .before .before .before .before .before .before .before .before .args .safe) (c .before .before .before .before .before .before .before .before .args .words .now)) Accepted
 unfolding nodeAnswer
 late c =
     let a = c .before .before .before .before .before .before .before .before .args in
-    growth-own (a .limits) (a .plan) nodeGrowth (lentNodes (a .floats) (length (a .words .now))) (nodeOwn (a .plan) (a .id) (a .n) (a .ramp) (a .words .now)) (within (c .before .before .before)) (roomy c)
+    growth-own (a .limits) (a .plan) nodeGrowth (lentNodes (a .floats) (length (a .words .now))) (nodeOwn (a .plan) (a .id) (a .n) (a .ramp) (a .safe) (a .words .now)) (within (c .before .before .before)) (roomy c)
 
 node-growth-requires : tie.Need-node-growth-requires
 node-growth-requires c κs = search needs
@@ -60,7 +60,7 @@ unfolding nodeAnswer
 returns c =
     let a = c .before .before .before .before .before .before .args in
     sym
-    (growth-refused (a .limits) (a .plan) nodeGrowth (lentNodes (a .floats) (length (a .words .now))) (nodeOwn (a .plan) (a .id) (a .n) (a .ramp) (a .words .now)) (c .before .r .given .0 .0)
+    (growth-refused (a .limits) (a .plan) nodeGrowth (lentNodes (a .floats) (length (a .words .now))) (nodeOwn (a .plan) (a .id) (a .n) (a .ramp) (a .safe) (a .words .now)) (c .before .r .given .0 .0)
     (limits-say (a .limits) (a .plan) nodeGrowth (c .before .before .before .before .node-growth .ensures) (c .before .before .before .limits-answer .ensures) (c .before .r .given .1)))
 
 enum-told : tie.Need-enum-told
@@ -92,7 +92,7 @@ returns-2 c =
     let s : growsPast (a .plan) nodeGrowth (lentNodes (a .floats) (length (a .words .now))) ≡ true =
     node-past (a .limits) (a .plan) 0 (a .floats) (length (a .words .now)) ∙ or-is (c .before .before .before .shorter .ensures) (c .before .before .shorter2 .ensures) (c .before .if1 .taken) in
     c .refused .ensures
-    ∙ sym (growth-short (a .limits) (a .plan) nodeGrowth (lentNodes (a .floats) (length (a .words .now))) (nodeOwn (a .plan) (a .id) (a .n) (a .ramp) (a .words .now)) (within (c .before .before .before .before)) s)
+    ∙ sym (growth-short (a .limits) (a .plan) nodeGrowth (lentNodes (a .floats) (length (a .words .now))) (nodeOwn (a .plan) (a .id) (a .n) (a .ramp) (a .safe) (a .words .now)) (within (c .before .before .before .before)) s)
 
 refused-requires-2 : tie.Need-refused-requires-2
 refused-requires-2 c κs = search needs
@@ -129,10 +129,33 @@ returns-5 c =
     (late (c .before .before .before .before .before)
     ∙ rw (le-ltb _ _ (c .before .before .before .before .if2 .left), sym (c .before .before .before .id-among .ensures) ∙ c .before .before .if3 .left, lt-ltb _ _ (c .before .if4 .taken)) (sym (c .refused4 .ensures)))
 
+refused-requires-5 : tie.Need-refused-requires-5
+refused-requires-5 c κs = search needs
+
 returns-6 : tie.Need-returns-6
 unfolding nodeAnswer
 returns-6 c =
-    sym (late (c .before .before .before .before) ∙ rw (le-ltb _ _ (c .before .before .before .if2 .left), sym (c .before .before .id-among .ensures) ∙ c .before .if3 .left, le-ltb _ _ (c .if4 .left)))
+    sym
+    (late (c .before .before .before .before .before .before)
+    ∙ rw (
+      le-ltb _ _ (c .before .before .before .before .before .if2 .left),
+      sym (c .before .before .before .before .id-among .ensures) ∙ c .before .before .before .if3 .left,
+      le-ltb _ _ (c .before .before .if4 .left),
+      lt-ltb _ _ (c .before .if5 .taken),
+    )
+    (sym (c .refused5 .ensures)))
+
+returns-7 : tie.Need-returns-7
+unfolding nodeAnswer
+returns-7 c =
+    sym
+    (late (c .before .before .before .before .before)
+    ∙ rw (
+      le-ltb _ _ (c .before .before .before .before .if2 .left),
+      sym (c .before .before .before .id-among .ensures) ∙ c .before .before .if3 .left,
+      le-ltb _ _ (c .before .if4 .left),
+      le-ltb _ _ (c .if5 .left),
+    ))
 
 pub node-answer-spec : {M : Type 1} → statement M
 node-answer-spec =
@@ -156,4 +179,6 @@ node-answer-spec =
     returns-4
     refused-requires-4
     returns-5
-    returns-6)
+    refused-requires-5
+    returns-6
+    returns-7)

@@ -49,6 +49,15 @@ mul-t17 c = search needs
 shared-slice-read-t19 : tie.Need-shared-slice-read-t19
 shared-slice-read-t19 c = search needs
 
+add-t20 : tie.Need-add-t20
+add-t20 c = search needs
+
+mul-t21 : tie.Need-mul-t21
+mul-t21 c = search needs
+
+shared-slice-read-t23 : tie.Need-shared-slice-read-t23
+shared-slice-read-t23 c = search needs
+
 returns : tie.Need-returns
 unfolding nodeAt
 returns c = cc
@@ -72,4 +81,7 @@ load-spec =
     add-t16
     mul-t17
     shared-slice-read-t19
+    add-t20
+    mul-t21
+    shared-slice-read-t23
     returns)

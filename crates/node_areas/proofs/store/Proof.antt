@@ -59,6 +59,15 @@ mul-words-3 c = search needs
 slice-write-words-3 : tie.Need-slice-write-words-3
 slice-write-words-3 c = simp length-set (omega arith)
 
+add-words-3 : tie.Need-add-words-3
+add-words-3 c = search needs
+
+mul-words-4 : tie.Need-mul-words-4
+mul-words-4 c = search needs
+
+slice-write-words-4 : tie.Need-slice-write-words-4
+slice-write-words-4 c = simp length-set (omega arith)
+
 same-length : tie.Need-same-length
 same-length c = search needs
 
@@ -98,6 +107,9 @@ store-spec =
     add-words-2
     mul-words-3
     slice-write-words-3
+    add-words-3
+    mul-words-4
+    slice-write-words-4
     same-length
     same-length-2
     returns)

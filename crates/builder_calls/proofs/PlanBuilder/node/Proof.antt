@@ -17,10 +17,10 @@ use Rattle.builder_calls.proofs.PlanBuilder.node.Tie as tie
 
 -- the call is accepted
 fits : (c : tie.After-enum-told)
-    → NodeFits unitLimits (c .before .before .before .before .before .before .before .args .plan) (c .before .before .before .before .before .before .before .args .id) (length (c .before .before .before .before .before .before .before .args .values .now)) (c .before .before .before .before .before .before .before .args .ramp) (length (c .before .before .before .before .before .before .before .args .floats .now)) (c .before .before .before .before .before .before .before .args .words .now)
+    → NodeFits unitLimits (c .before .before .before .before .before .before .before .args .plan) (c .before .before .before .before .before .before .before .args .id) (length (c .before .before .before .before .before .before .before .args .values .now)) (c .before .before .before .before .before .before .before .args .ramp) (c .before .before .before .before .before .before .before .args .safe) (length (c .before .before .before .before .before .before .before .args .floats .now)) (c .before .before .before .before .before .before .before .args .words .now)
 fits c =
     let a = c .before .before .before .before .before .before .before .args in
-    node-fits unitLimits (a .plan) (a .id) (length (a .values .now)) (a .ramp) (length (a .floats .now)) (a .words .now) (sym (c .before .before .node-answer .ensures) ∙ c .enum-told .given .1)
+    node-fits unitLimits (a .plan) (a .id) (length (a .values .now)) (a .ramp) (a .safe) (length (a .floats .now)) (a .words .now) (sym (c .before .before .node-answer .ensures) ∙ c .enum-told .given .1)
 
 node-answer-requires : tie.Need-node-answer-requires
 node-answer-requires c κs = search needs
@@ -44,8 +44,8 @@ add-grown c =
     let f = fits (c .before .before .before .before .before .before .before .before) in
     omega arith
 
-cast-t24 : tie.Need-cast-t24
-cast-t24 c =
+cast-t25 : tie.Need-cast-t25
+cast-t25 c =
     let f = fits (c .before .before .before .before .before .before .before .before) in
     omega arith
 
@@ -58,11 +58,11 @@ returns c =
     let a = c .before .before .before .before .before .before .before .before .args in
     let floats = a .floats .now in
     let words = a .words .now in
-    let v = nodeAnswer unitLimits (a .plan) (a .id) (length (a .values .now)) (a .ramp) (length floats) words in
+    let v = nodeAnswer unitLimits (a .plan) (a .id) (length (a .values .now)) (a .ramp) (a .safe) (length floats) words in
     let r = c .before .r .given .0 .0 in
     let e : v ≡ Refused r = sym (c .before .before .before .node-answer .ensures) ∙ c .before .r .given .1 in (
       sym (outcome-refused v (numbered.Number (a .plan .nodes)) numbered.Refused r e),
-      (sym (plan-refused (a .plan) nodeGrowth e), (sym (floats-refused unitLimits (a .plan) (a .id) (a .values .now) (a .ramp) floats words e), sym (words-refused unitLimits (a .plan) (a .id) (a .values .now) (a .ramp) floats words e))),
+      (sym (plan-refused (a .plan) nodeGrowth e), (sym (floats-refused unitLimits (a .plan) (a .id) (a .values .now) (a .ramp) (a .safe) floats words e), sym (words-refused unitLimits (a .plan) (a .id) (a .values .now) (a .ramp) (a .safe) floats words e))),
     )
 
 same-length-2 : tie.Need-same-length-2
@@ -79,10 +79,10 @@ returns-2 c =
     let words = a .words .now in
     let s = c .before .before .before .before in
     let n = s .before .before .before in
-    let v = nodeAnswer unitLimits (a .plan) (a .id) (length (a .values .now)) (a .ramp) (length floats) words in
+    let v = nodeAnswer unitLimits (a .plan) (a .id) (length (a .values .now)) (a .ramp) (a .safe) (length floats) words in
     let e : v ≡ Accepted = sym (c .before .before .before .before .before .before .before .before .before .before .node-answer .ensures) ∙ c .before .before .before .before .before .before .before .before .enum-told .given .1 in (
       sym (outcome-accepted v (numbered.Number (a .plan .nodes)) numbered.Refused e),
-      (sym (plan-accepted (a .plan) nodeGrowth e), (s .store .ensures .0 ∙ ap (storedFloats floats (a .plan .nodes)) (n .new .ensures) ∙ sym (floats-accepted unitLimits (a .plan) (a .id) (a .values .now) (a .ramp) floats words e), s .store .ensures .1 ∙ ap (storedWords words (a .plan .nodes)) (n .new .ensures) ∙ sym (words-accepted unitLimits (a .plan) (a .id) (a .values .now) (a .ramp) floats words e))),
+      (sym (plan-accepted (a .plan) nodeGrowth e), (s .store .ensures .0 ∙ ap (storedFloats floats (a .plan .nodes)) (n .new .ensures) ∙ sym (floats-accepted unitLimits (a .plan) (a .id) (a .values .now) (a .ramp) (a .safe) floats words e), s .store .ensures .1 ∙ ap (storedWords words (a .plan .nodes)) (n .new .ensures) ∙ sym (words-accepted unitLimits (a .plan) (a .id) (a .values .now) (a .ramp) (a .safe) floats words e))),
     )
 
 pub node-spec : {M : Type 1} → statement M
@@ -95,7 +95,7 @@ node-spec =
     new-requires
     store-requires
     add-grown
-    cast-t24
+    cast-t25
     same-length
     returns
     same-length-2

@@ -10,6 +10,7 @@ use Rattle.plan.specs.Words.{gainMap}
 use Rattle.builder.specs.Built.{buffers, node, step, BuilderState, builderState, after}
 use Rattle.builder.proofs.States.{buffers-state, node-state, step-state}
 use Rattle.insert_calls.proofs.Parts.{take-alike}
+use Rattle.insert.specs.Wiring.{insertSafe}
 use borrow.Author.Needs.{needs}
 use Rattle.insert_calls.proofs.wiring.add_gain.Statement.{statement}
 use Rattle.insert_calls.proofs.wiring.add_gain.Tie as tie
@@ -62,8 +63,8 @@ returns c =
     step-state unitLimits _ _ _ _ _ _ rec (three .ensures .1 .0) (three .ensures .1 .1)
     ∙ ap (λ (t : BuilderState). after unitLimits t (step rec)) (buffers-state unitLimits _ _ _ _ _ _ (a .dst .len) (two .ensures .1 .0) (two .ensures .1 .1))
     ∙ ap (λ (t : BuilderState). after unitLimits (after unitLimits t (buffers (a .dst .len))) (step rec))
-    (node-state unitLimits _ _ _ _ _ _ (a .id) _ (a .ramp) (one .ensures .1 .0) (one .ensures .1 .1 .0) (one .ensures .1 .1 .1))
-    ∙ ap (λ (xs : List Float). after unitLimits (after unitLimits (after unitLimits start (node (a .id) xs (a .ramp))) (buffers (a .dst .len))) (step rec))
+    (node-state unitLimits _ _ _ _ _ _ (a .id) _ (a .ramp) insertSafe (one .ensures .1 .0) (one .ensures .1 .1 .0) (one .ensures .1 .1 .1))
+    ∙ ap (λ (xs : List Float). after unitLimits (after unitLimits (after unitLimits start (node (a .id) xs (a .ramp) insertSafe)) (buffers (a .dst .len))) (step rec))
     (take-alike (a .gain) (a .dst .len) 12 (s .pre))
 
 pub add-gain-spec : {M : Type 1} → statement M

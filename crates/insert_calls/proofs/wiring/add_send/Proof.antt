@@ -7,6 +7,7 @@ use Rattle.plan.specs.Limits.{unitLimits}
 use Rattle.plan.specs.Words.{sendMap}
 use Rattle.builder.specs.Built.{step, BuilderState, after}
 use Rattle.builder.proofs.States.{node-state, step-state}
+use Rattle.insert.specs.Wiring.{insertSafe}
 use borrow.Author.Needs.{needs}
 use Rattle.insert_calls.proofs.wiring.add_send.Statement.{statement}
 use Rattle.insert_calls.proofs.wiring.add_send.Tie as tie
@@ -41,7 +42,7 @@ returns c =
     let rec : List ℕ = sendMap ∷ a .number ∷ a .src .start ∷ a .src .len ∷ a .dst .start ∷ a .dst .len ∷ a .weights .start ∷ a .weights .len ∷ [] in
     step-state unitLimits _ _ _ _ _ _ rec (two .ensures .1 .0) (two .ensures .1 .1)
     ∙ ap (λ (t : BuilderState). after unitLimits t (step rec))
-    (node-state unitLimits _ _ _ _ _ _ (a .id) (one32 ∷ []) (a .ramp) (one .ensures .1 .0) (one .ensures .1 .1 .0) (one .ensures .1 .1 .1))
+    (node-state unitLimits _ _ _ _ _ _ (a .id) (one32 ∷ []) (a .ramp) insertSafe (one .ensures .1 .0) (one .ensures .1 .1 .0) (one .ensures .1 .1 .1))
 
 pub add-send-spec : {M : Type 1} → statement M
 add-send-spec =

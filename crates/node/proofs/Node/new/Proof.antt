@@ -10,8 +10,8 @@ use Rattle.node.proofs.Node.new.Tie as tie
 smaller-requires : tie.Need-smaller-requires
 smaller-requires c κs = search needs
 
-cast-t8 : tie.Need-cast-t8
-cast-t8 c = search needs
+cast-t9 : tie.Need-cast-t9
+cast-t9 c = search needs
 
 set-requires : tie.Need-set-requires
 set-requires c κs = search needs
@@ -20,7 +20,7 @@ returns : tie.Need-returns
 unfolding newNode ofBits ofInt
 returns c =
     let a = c .before .before .before .args in
-    c .set .ensures ∙ ap (λ (l : ℕ). setNode (zeroNode (a .id) l) (a .values .now) (a .ramp)) (c .before .smaller .ensures)
+    c .set .ensures ∙ ap (λ (l : ℕ). setNode (zeroNode (a .id) l (a .safe)) (a .values .now) (a .ramp)) (c .before .smaller .ensures)
 
 pub new-spec : {M : Type 1} → statement M
-new-spec = tie.close (tie.spec smaller-requires cast-t8 set-requires returns)
+new-spec = tie.close (tie.spec smaller-requires cast-t9 set-requires returns)
