@@ -62,7 +62,7 @@ enum mixer_number {
     MIXER_SHORT_OUTPUT = 13,  /* an output area shorter than the Outputs of the plan */
 
     /* to the keeper of the areas */
-    MIXER_BAD_NODE = 14, /* a node whose len is above 24 or whose left is above 16,777,216 */
+    MIXER_BAD_NODE = 14, /* a node, used or not, with len above 24, left above 16,777,216 or, to the layout writer too, safe above 1 */
 
     /* to the reader of lists and folds */
     MIXER_NO_SLOT = 15,      /* a slot above the highest that an Output names */
@@ -101,7 +101,8 @@ enum mixer_limit {
  *   indices       uint32_t  a buffer's number each; a span of them is a list of buffers
  *   coefficients  float     the weights of Sends
  *   node_floats   float     72 a node: 24 of cur, 24 of target, 24 of step
- *   node_words    uint32_t  three a node: its id, len (how many of the 24 are in use) and left (samples left of its ramp)
+ *   node_words    uint32_t  four a node: its id, len (how many of the 24 are in use), left (samples left of its ramp) and safe (0, or 1 for
+ *                           mixer_adopt to skip it)
  *   steps         uint32_t  the records of the steps, one after the other; `words` counts them
  *   buffers       float     buffer i has the samples from i * block to (i + 1) * block */
 typedef struct {
@@ -116,7 +117,7 @@ typedef struct {
 
 enum mixer_layout {
     MIXER_NODE_FLOATS = 72,
-    MIXER_NODE_WORDS = 3,
+    MIXER_NODE_WORDS = 4,
     MIXER_ENTRY_WORDS = 4 /* of a directory's entry: input, channel, start, length */
 };
 
@@ -178,9 +179,10 @@ mixer_buffer_reply mixer_buffer(mixer_plan plan, mixer_span span, size_t i, cons
 /* Copies the values behind the other coefficients. Refused: 5, 2. */
 mixer_span_reply mixer_coefficients(mixer_plan plan, const float *values, size_t values_len, float *coefficients, size_t coefficients_len);
 
-/* A node at zero, set to the values over `ramp` samples, so that with a ramp it fades in. Refused: 5, 2, 7, 8, 10. */
-mixer_node_reply mixer_node(mixer_plan plan, uint32_t id, const float *values, size_t values_len, uint32_t ramp, float *node_floats,
-                            size_t node_floats_len, uint32_t *node_words, size_t node_words_len);
+/* A node at zero, set to the values over `ramp` samples: at once where that is 0, else it fades in from 0, a safe node too. So a node that has to start
+ * at its own values, whatever an old plan had, is made with a ramp of 0 and a `safe` of 1. Refused: 5, 2, 7, 8, 10, 14. */
+mixer_node_reply mixer_node(mixer_plan plan, uint32_t id, const float *values, size_t values_len, uint32_t ramp, uint32_t safe,
+                            float *node_floats, size_t node_floats_len, uint32_t *node_words, size_t node_words_len);
 
 /* The step whose record stands at the front of `record`; words past it are ignored. Refused: 5, 2, 3, 7. */
 mixer_plan_reply mixer_step(mixer_plan plan, const uint32_t *record, size_t record_len, uint32_t *steps, size_t steps_len);
@@ -223,11 +225,11 @@ typedef struct {
  * with a Patch each, the return Gain, the dry Gain (from src) and the wet Gain (from the return), a Clear of the insert's output, n * n coefficients of
  * 1 and 0, and two Sends, dry and wet, into the output. That is n buffers and index entries, a node, and 2 steps of 10 words; with a return 6 * n
  * buffers and index entries, n * n coefficients, 6 nodes, and n + 8 steps of 4 * n + 47 words. Replies with the span that the strip goes on with: src,
- * or with a return the output's. The nodes can be set by their ids as any other: all n values of dry to 1 and of wet to 0 is bypass. Of a src shorter
- * than n the channels past it are not written, and where no earlier step wrote them the plan is not clean. The plan check finds as 4 a slot above 31
- * (at the insert's second step), a return input above 256 (its third) and, with a return, a src longer than n (its step n + 7). Refused: 16; with a
- * return 18; 4, a src past the index list as the plan counts it; then for the whole insert 5, 2, 8 (an id that another node or another of its own nodes
- * has), 10. */
+ * or with a return the output's. The nodes have a safe of 0 and can be set by their ids as any other: all n values of dry to 1 and of wet to 0 is
+ * bypass. Of a src shorter than n the channels past it are not written, and where no earlier step wrote them the plan is not clean. The plan check
+ * finds as 4 a slot above 31 (at the insert's second step), a return input above 256 (its third) and, with a return, a src longer than n (its step
+ * n + 7). Refused: 16; with a return 18; 4, a src past the index list as the plan counts it; then for the whole insert 5, 2, 8 (an id that another node
+ * or another of its own nodes has), 10. */
 mixer_span_reply mixer_insert(mixer_plan plan, mixer_insert_point insert, uint32_t *indices, size_t indices_len, float *coefficients,
                               size_t coefficients_len, float *node_floats, size_t node_floats_len, uint32_t *node_words,
                               size_t node_words_len, uint32_t *steps, size_t steps_len);
@@ -272,7 +274,9 @@ mixer_count_reply mixer_lookup(const uint32_t *directory, size_t directory_len, 
 bool mixer_directory_bad(const uint32_t *directory, size_t directory_len, size_t samples);
 
 /* Nodes of an old plan into a new one. `pairs` has two node numbers a pair, new and old: the new node takes the cur of the old one and ramps to
- * its own target again over `ramp` samples. A pair that names no node, or nodes of different len, is skipped. Refused: 5, 2, 11, 14, 10. */
+ * its own target again over `ramp` samples. A pair that names no node, nodes of different len, or a new node that is safe, is skipped; whether the old
+ * one is safe does not matter. A safe node so stays as it is: at its own values, or on its own ramp, from 0 where mixer_node began it. Refused: 5, 2,
+ * 11, 14, 10. */
 mixer_status mixer_adopt(mixer_plan plan, float *node_floats, size_t node_floats_len, uint32_t *node_words, size_t node_words_len,
                          mixer_plan old_plan, const float *old_floats, size_t old_floats_len, const uint32_t *old_words,
                          size_t old_words_len, const uint32_t *pairs, size_t pairs_len, uint32_t ramp);

@@ -19,7 +19,7 @@ static uint32_t indices[ROOM], node_words[ROOM], steps[ROOM];
 static float coefficients[ROOM], node_floats[ROOM], buffers[ROOM];
 
 /* The words of a node and its three rows, and where each stands. */
-enum { ID, LEN, LEFT, CUR = 0, TARGET = MIXER_MAX_VALUES, STEP = 2 * MIXER_MAX_VALUES };
+enum { ID, LEN, LEFT, SAFE, CUR = 0, TARGET = MIXER_MAX_VALUES, STEP = 2 * MIXER_MAX_VALUES };
 
 static const uint32_t *words_of(size_t node)
 {
@@ -91,25 +91,26 @@ static mixer_plan with_coefficients(mixer_plan p)
     return s.plan;
 }
 
-/* Node 0 with two values, node 1 with two, node 2 with one, which fades in over 16 samples. */
+/* Node 0 with two values, node 1 with two, safe, node 2 with one, which fades in over 16 samples. */
 static mixer_plan with_nodes(mixer_plan p)
 {
     static float levels[ROOM] = {0.5f, 0.25f}, row[ROOM] = {2.0f, 8.0f}, send[ROOM] = {4.0f};
-    mixer_node_reply n = mixer_node(p, 70, levels, 2, 0, node_floats, MIXER_NODE_FLOATS, node_words, MIXER_NODE_WORDS);
+    mixer_node_reply n = mixer_node(p, 70, levels, 2, 0, 0, node_floats, MIXER_NODE_FLOATS, node_words, MIXER_NODE_WORDS);
     ACCEPTED(n.status);
     CHECK(n.node == 0 && n.plan.nodes == 1);
-    n = mixer_node(n.plan, 71, row, 2, 0, node_floats, 2 * MIXER_NODE_FLOATS, node_words, 2 * MIXER_NODE_WORDS);
+    n = mixer_node(n.plan, 71, row, 2, 0, 1, node_floats, 2 * MIXER_NODE_FLOATS, node_words, 2 * MIXER_NODE_WORDS);
     ACCEPTED(n.status);
     CHECK(n.node == 1 && n.plan.nodes == 2);
     p = n.plan;
-    n = mixer_node(p, 71, send, 1, 16, node_floats, NODE_FLOATS, node_words, NODE_WORDS);
+    n = mixer_node(p, 71, send, 1, 16, 0, node_floats, NODE_FLOATS, node_words, NODE_WORDS);
     REFUSED(n.status, MIXER_ID_TAKEN, 0);
     CHECK(n.node == 0 && same(n.plan, p) && words_of(2)[ID] == 0);
-    n = mixer_node(p, 72, send, 1, 16, node_floats, NODE_FLOATS, node_words, NODE_WORDS);
+    n = mixer_node(p, 72, send, 1, 16, 0, node_floats, NODE_FLOATS, node_words, NODE_WORDS);
     ACCEPTED(n.status);
     CHECK(n.node == 2 && n.plan.nodes == NODES);
-    CHECK(words_of(0)[ID] == 70 && words_of(0)[LEN] == 2 && words_of(0)[LEFT] == 0);
-    CHECK(words_of(2)[ID] == 72 && words_of(2)[LEN] == 1 && words_of(2)[LEFT] == 16 && node_words[NODE_WORDS] == 0);
+    CHECK(words_of(0)[ID] == 70 && words_of(0)[LEN] == 2 && words_of(0)[LEFT] == 0 && words_of(0)[SAFE] == 0);
+    CHECK(words_of(1)[ID] == 71 && words_of(1)[LEN] == 2 && words_of(1)[LEFT] == 0 && words_of(1)[SAFE] == 1);
+    CHECK(words_of(2)[ID] == 72 && words_of(2)[LEN] == 1 && words_of(2)[LEFT] == 16 && words_of(2)[SAFE] == 0 && node_words[NODE_WORDS] == 0);
     CHECK(floats_of(0)[CUR] == 0.5f && floats_of(0)[CUR + 1] == 0.25f && floats_of(0)[TARGET] == 0.5f && floats_of(0)[TARGET + 1] == 0.25f);
     CHECK(floats_of(2)[CUR] == 0.0f && floats_of(2)[TARGET] == 4.0f && floats_of(2)[STEP] == 0.25f);
     return n.plan;

@@ -30,7 +30,7 @@ static uint32_t heard(float sample, float gain, unsigned state)
     float floats[MIXER_NODE_FLOATS], buffers[2], output = 7;
     mixer_plan p = mixer_buffers(mixer_new(1).plan, 2, indices, 2).plan;
     mixer_count_reply r;
-    p = mixer_node(p, 5, &gain, 1, 0, floats, MIXER_NODE_FLOATS, words, MIXER_NODE_WORDS).plan;
+    p = mixer_node(p, 5, &gain, 1, 0, 0, floats, MIXER_NODE_FLOATS, words, MIXER_NODE_WORDS).plan;
     p = mixer_step(p, records, 4, steps, 14).plan;
     p = mixer_step(p, records + 4, 6, steps, 14).plan;
     p = mixer_step(p, records + 10, 4, steps, 14).plan;

@@ -9,7 +9,7 @@ static void built(void)
     static const uint32_t steps[] = {MIXER_GAIN, 2, 1, 2, 29, 2, MIXER_OUTPUT, 29, 2, SLOT, MIXER_PATCH, 6, 4, 28, MIXER_PATCH, 6, 5, 29,
                                      MIXER_GAIN, 3, 31, 2, 33, 2, MIXER_GAIN, 4, 1, 2, 35, 2, MIXER_GAIN, 5, 33, 2, 37, 2, MIXER_CLEAR, 39, 2,
                                      MIXER_SEND, 6, 35, 2, 39, 2, 5, 4, MIXER_SEND, 7, 37, 2, 39, 2, 5, 4};
-    static const uint32_t words[] = {90, 2, 16, 80, 2, 16, 100, 2, 16, 60, 2, 16, 110, 1, 16, 50, 1, 16};
+    static const uint32_t words[] = {90, 2, 16, 0, 80, 2, 16, 0, 100, 2, 16, 0, 60, 2, 16, 0, 110, 1, 16, 0, 50, 1, 16, 0};
     static const float weights[] = {1, 0, 0, 1}, targets[] = {0.25f, 2, 0, 1, 1, 1};
     mixer_span_reply r;
     size_t i;
@@ -19,7 +19,7 @@ static void built(void)
     CHECK(r.span.start == 39 && r.span.len == 2);
     CHECK(desk.plan.words == WORDS + 55 && memcmp(desk.steps + WORDS, steps, sizeof steps) == 0);
     CHECK(desk.plan.coefficients == COEFFICIENTS + 4 && memcmp(desk.coefficients + COEFFICIENTS, weights, sizeof weights) == 0);
-    CHECK(desk.plan.nodes == NODES + 6 && memcmp(desk.node_words + 3 * NODES, words, sizeof words) == 0);
+    CHECK(desk.plan.nodes == NODES + 6 && memcmp(desk.node_words + NODES * MIXER_NODE_WORDS, words, sizeof words) == 0);
     for (i = 0; i < 12; i++) {
         CHECK(desk.indices[INDICES + i] == BUFFERS + i);
     }

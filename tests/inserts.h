@@ -40,7 +40,7 @@ static void add_node(struct desk *d, uint32_t id, float value, size_t n, uint32_
     for (i = 0; i < n; i++) {
         values[i] = value;
     }
-    r = mixer_node(d->plan, id, values, n, ramp, AREA(d->node_floats), AREA(d->node_words));
+    r = mixer_node(d->plan, id, values, n, ramp, 0, AREA(d->node_floats), AREA(d->node_words));
     ACCEPTED(r.status);
     d->plan = r.plan;
 }

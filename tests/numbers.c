@@ -28,17 +28,18 @@ static void nodes_at_limits(void)
 {
     mixer_plan p = mixer_new(1).plan;
     uint32_t i;
-    ACCEPTED(mixer_node(p, 0, values, MIXER_MAX_VALUES, MIXER_MAX_RAMP, node_floats, MIXER_NODE_FLOATS, node_words, MIXER_NODE_WORDS).status);
-    REFUSED(mixer_node(p, 0, values, MIXER_MAX_VALUES + 1, 0, AREA(node_floats), AREA(node_words)).status, MIXER_TOO_MANY_VALUES, 0);
-    REFUSED(mixer_node(p, 0, values, 1, MIXER_MAX_RAMP + 1, AREA(node_floats), AREA(node_words)).status, MIXER_LONG_RAMP, 0);
-    REFUSED(mixer_node(p, 0, values, 1, 0, node_floats, MIXER_NODE_FLOATS - 1, AREA(node_words)).status, MIXER_SHORT_AREA, 0);
-    REFUSED(mixer_node(p, 0, values, 1, 0, AREA(node_floats), node_words, MIXER_NODE_WORDS - 1).status, MIXER_SHORT_AREA, 0);
+    ACCEPTED(mixer_node(p, 0, values, MIXER_MAX_VALUES, MIXER_MAX_RAMP, 1, node_floats, MIXER_NODE_FLOATS, node_words, MIXER_NODE_WORDS).status);
+    REFUSED(mixer_node(p, 0, values, MIXER_MAX_VALUES + 1, 0, 0, AREA(node_floats), AREA(node_words)).status, MIXER_TOO_MANY_VALUES, 0);
+    REFUSED(mixer_node(p, 0, values, 1, MIXER_MAX_RAMP + 1, 0, AREA(node_floats), AREA(node_words)).status, MIXER_LONG_RAMP, 0);
+    REFUSED(mixer_node(p, 0, values, 1, 0, 2, AREA(node_floats), AREA(node_words)).status, MIXER_BAD_NODE, 0);
+    REFUSED(mixer_node(p, 0, values, 1, 0, 0, node_floats, MIXER_NODE_FLOATS - 1, AREA(node_words)).status, MIXER_SHORT_AREA, 0);
+    REFUSED(mixer_node(p, 0, values, 1, 0, 0, AREA(node_floats), node_words, MIXER_NODE_WORDS - 1).status, MIXER_SHORT_AREA, 0);
     for (i = 0; i < MIXER_MAX_NODES; i++) {
-        mixer_node_reply r = mixer_node(p, i, values, 1, 0, AREA(node_floats), AREA(node_words));
+        mixer_node_reply r = mixer_node(p, i, values, 1, 0, 0, AREA(node_floats), AREA(node_words));
         ACCEPTED(r.status);
         p = r.plan;
     }
-    REFUSED(mixer_node(p, i, values, 1, 0, AREA(node_floats), AREA(node_words)).status, MIXER_OVER_LIMIT, 0);
+    REFUSED(mixer_node(p, i, values, 1, 0, 0, AREA(node_floats), AREA(node_words)).status, MIXER_OVER_LIMIT, 0);
     REFUSED(mixer_set_param(p, i, values, 1, 0, AREA(node_floats), AREA(node_words)), MIXER_UNKNOWN_ID, 0);
     REFUSED(mixer_adopt(p, AREA(node_floats), AREA(node_words), p, NULL, 0, NULL, 0, indices, 1, 0), MIXER_SHORT_AREA, 0);
     REFUSED(mixer_adopt(p, AREA(node_floats), AREA(node_words), mixer_new(1).plan, NULL, 0, NULL, 0, indices, 1, 0), MIXER_ODD_LIST, 0);
@@ -54,7 +55,7 @@ static void nodes_at_limits(void)
 static mixer_status check(const uint32_t *record, size_t len)
 {
     mixer_plan p = mixer_buffers(mixer_new(1).plan, 2, AREA(indices)).plan;
-    p = mixer_node(p, 0, values, 1, 0, AREA(node_floats), AREA(node_words)).plan;
+    p = mixer_node(p, 0, values, 1, 0, 0, AREA(node_floats), AREA(node_words)).plan;
     memcpy(steps, record, len * sizeof *record);
     p.steps = 1;
     p.words = len;

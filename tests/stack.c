@@ -72,7 +72,7 @@ static void build(void)
         indices[i] = BUFFERS - 1 - i;
     }
     for (i = 0; i < NODES; i++) {
-        plan = mixer_node(plan, NODES - i, AREA(values), 0, AREA(node_floats), AREA(node_words)).plan;
+        plan = mixer_node(plan, NODES - i, AREA(values), 0, 0, AREA(node_floats), AREA(node_words)).plan;
     }
     step(patch, 4);
     step(clear, 3);
@@ -112,7 +112,7 @@ static void job_spans(void)
     ACCEPTED(mixer_buffer(plan, span, 1, AREA(indices)).status);
 }
 
-/* With a ramp, and to a node behind others; the areas are the call's own, so that the plan stays as it is. */
+/* With a ramp, safe, and behind other nodes; the areas are the call's own, so that the plan stays as it is. */
 static void job_node(void)
 {
     static float floats[NODES * MIXER_NODE_FLOATS];
@@ -120,7 +120,7 @@ static void job_node(void)
     mixer_plan p = mixer_new(BLOCK).plan;
     uint32_t i;
     for (i = 0; i < NODES; i++) {
-        mixer_node_reply r = mixer_node(p, i, AREA(values), 5 * i, AREA(floats), AREA(words));
+        mixer_node_reply r = mixer_node(p, i, AREA(values), 5 * i, i > 0, AREA(floats), AREA(words));
         ACCEPTED(r.status);
         p = r.plan;
     }

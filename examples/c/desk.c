@@ -1,12 +1,16 @@
 /* A small layout over the mixer's C interface: a microphone and a stereo band into the hall (slot 0), the microphone alone to the stage (slot 1).
- * On its way to the hall the microphone has an insert: it goes to an effects box (slot 2), and what the box sends back can be heard in its place. */
+ * On its way to the hall the microphone has an insert: it goes to an effects box (slot 2), and what the box sends back can be heard in its place.
+ * Emergency announcements go to the hall too, at a gain that no new layout takes over from an old one. */
 #include <stdio.h>
 #include <stdlib.h>
 
 #include "mixer.h"
 
-enum { BLOCK = 4, BUFFERS = 13, NODES = 9, CHANNELS = 4, MICROPHONE = 12, BAND = 40, BOX = 60, HALL = 0, STAGE = 1, EFFECTS = 2 };
-enum { STRIP_LEVEL = 100, BAND_LEVEL, STAGE_LEVEL, BOX_SEND, BOX_RETURN, BOX_DRY, BOX_WET, BOX_DRYIN, BOX_WETIN };
+enum { BLOCK = 4, BUFFERS = 14, NODES = 10, CHANNELS = 4, HALL = 0, STAGE = 1, EFFECTS = 2 };
+enum { MICROPHONE = 12, BAND = 40, BOX = 60, ANNOUNCEMENT = 80 };
+
+/* The ids of the nodes, in the order in which the nodes are made. */
+enum { STRIP_LEVEL = 100, BAND_LEVEL, STAGE_LEVEL, ANNOUNCEMENT_LEVEL, BOX_SEND, BOX_RETURN, BOX_DRY, BOX_WET, BOX_DRYIN, BOX_WETIN };
 
 /* The record of a plan and its areas, and the entries of the directory that it is run with. */
 struct desk {
@@ -50,9 +54,9 @@ static mixer_span weights(struct desk *d, uint32_t src, uint32_t dst)
     return r.span;
 }
 
-static uint32_t node(struct desk *d, uint32_t id, float value)
+static uint32_t node(struct desk *d, uint32_t id, float value, uint32_t safe)
 {
-    mixer_node_reply r = mixer_node(d->plan, id, &value, 1, 0, AREA(d->node_floats), AREA(d->node_words));
+    mixer_node_reply r = mixer_node(d->plan, id, &value, 1, 0, safe, AREA(d->node_floats), AREA(d->node_words));
     expect("node", r.status);
     d->plan = r.plan;
     return r.node;
@@ -97,27 +101,31 @@ static mixer_span insert(struct desk *d, mixer_span strip)
 static void build(struct desk *d)
 {
     mixer_plan_reply r = mixer_new(BLOCK);
-    mixer_span microphone, band, strip, hall, stage, inserted;
-    uint32_t strip_level, band_level, stage_level;
+    mixer_span microphone, band, announcement, strip, hall, stage, inserted;
+    uint32_t strip_level, band_level, stage_level, announcement_level;
     expect("new", r.status);
     d->plan = r.plan;
     microphone = buffers(d, 1);
     band = buffers(d, 2);
+    announcement = buffers(d, 1);
     strip = buffers(d, 1);
     hall = buffers(d, 2);
     stage = buffers(d, 1);
-    strip_level = node(d, STRIP_LEVEL, 0.5f);
-    band_level = node(d, BAND_LEVEL, 1.0f);
-    stage_level = node(d, STAGE_LEVEL, 1.0f);
+    strip_level = node(d, STRIP_LEVEL, 0.5f, 0);
+    band_level = node(d, BAND_LEVEL, 1.0f, 0);
+    stage_level = node(d, STAGE_LEVEL, 1.0f, 0);
+    announcement_level = node(d, ANNOUNCEMENT_LEVEL, 1.0f, 1);
     patch(d, MICROPHONE, 0, microphone);
     patch(d, BAND, 0, band);
     patch(d, BAND, 1, band);
+    patch(d, ANNOUNCEMENT, 0, announcement);
     step(d, (const uint32_t[]){MIXER_GAIN, strip_level, microphone.start, microphone.len, strip.start, strip.len}, 6);
     inserted = insert(d, strip);
     step(d, (const uint32_t[]){MIXER_CLEAR, hall.start, hall.len}, 3);
     step(d, (const uint32_t[]){MIXER_CLEAR, stage.start, stage.len}, 3);
     send(d, band_level, band, hall, weights(d, MIXER_STEREO, MIXER_STEREO));
     send(d, band_level, inserted, hall, weights(d, MIXER_MONO, MIXER_STEREO));
+    send(d, announcement_level, announcement, hall, weights(d, MIXER_MONO, MIXER_STEREO));
     send(d, stage_level, strip, stage, weights(d, MIXER_MONO, MIXER_MONO));
     step(d, (const uint32_t[]){MIXER_OUTPUT, hall.start, hall.len, HALL}, 4);
     step(d, (const uint32_t[]){MIXER_OUTPUT, stage.start, stage.len, STAGE}, 4);
@@ -128,13 +136,13 @@ static void build(struct desk *d)
 }
 
 /* One block into an output area of n samples. Of the directory the first `entries` are lent: the microphone at 1, the band at 0.25 and -0.25, the box
- * at 0.5, and last a stand-in for the microphone at 0.5. */
+ * at 0.5, a stand-in for the microphone at 0.5, and last an announcement at 1. */
 static mixer_count_reply run(struct desk *d, float *output, size_t n)
 {
     static const uint32_t directory[] = {MICROPHONE, 0, 0, BLOCK, BAND, 0, BLOCK, BLOCK, BAND, 1, 2 * BLOCK, BLOCK,
-                                         BOX, 0, 3 * BLOCK, BLOCK, MICROPHONE, 0, 4 * BLOCK, BLOCK};
+                                         BOX, 0, 3 * BLOCK, BLOCK, MICROPHONE, 0, 4 * BLOCK, BLOCK, ANNOUNCEMENT, 0, 5 * BLOCK, BLOCK};
     static const float samples[] = {1, 1, 1, 1, 0.25f, 0.25f, 0.25f, 0.25f, -0.25f, -0.25f, -0.25f, -0.25f,
-                                    0.5f, 0.5f, 0.5f, 0.5f, 0.5f, 0.5f, 0.5f, 0.5f};
+                                    0.5f, 0.5f, 0.5f, 0.5f, 0.5f, 0.5f, 0.5f, 0.5f, 1, 1, 1, 1};
     return mixer_process(d->plan, AREA(d->indices), AREA(d->coefficients), AREA(d->node_floats), AREA(d->node_words), AREA(d->steps),
                          AREA(d->buffers), directory, MIXER_ENTRY_WORDS * d->entries, AREA(samples), output, n);
 }
@@ -159,6 +167,34 @@ static void block(struct desk *d)
 static mixer_status level(struct desk *d, uint32_t id, float value, uint32_t ramp)
 {
     return mixer_set_param(d->plan, id, &value, 1, ramp, AREA(d->node_floats), AREA(d->node_words));
+}
+
+static void gain(const struct desk *d, const char *name, uint32_t id)
+{
+    const float *floats = d->node_floats + (id - STRIP_LEVEL) * MIXER_NODE_FLOATS;
+    printf("  %-12s at %.5f, target %.5f\n", name, (double)floats[0], (double)floats[MIXER_MAX_VALUES]);
+}
+
+/* An announcement, then the layout built anew: each of its nodes goes on from where the old one of its number is, but for the safe one. */
+static void announce(struct desk *old)
+{
+    static struct desk d;
+    uint32_t pairs[2 * NODES], n;
+    printf("an announcement, at a gain of 0.25\n");
+    old->entries = 6;
+    expect("set_param", level(old, ANNOUNCEMENT_LEVEL, 0.25f, 0));
+    block(old);
+    printf("the layout built anew, its nodes adopted over 8 samples, but for the announcement's gain, which is safe\n");
+    build(&d);
+    d.entries = 6;
+    for (n = 0; n < NODES; n++) {
+        pairs[2 * n] = pairs[2 * n + 1] = n;
+    }
+    expect("adopt", mixer_adopt(d.plan, AREA(d.node_floats), AREA(d.node_words), old->plan, AREA(old->node_floats), AREA(old->node_words),
+                                AREA(pairs), 8));
+    gain(&d, "strip", STRIP_LEVEL);
+    gain(&d, "announcement", ANNOUNCEMENT_LEVEL);
+    block(&d);
 }
 
 static void refused(const char *call, mixer_status s)
@@ -200,6 +236,7 @@ int main(void)
     expect("set_param", level(&d, BOX_DRY, 0.0f, 4));
     expect("set_param", level(&d, BOX_WET, 1.0f, 4));
     block(&d);
+    announce(&d);
     refused("a setting of an unknown node", level(&d, 7, 1.0f, 0));
     refused("an output area that is short", run(&d, output, CHANNELS * BLOCK - 1).status);
     d.steps[0] = 1;

@@ -1,165 +1,27 @@
-//! The layout of examples/c/desk.c from Rust: the same calls, declared here as include/mixer.h declares them, the same text.
+//! The layout of examples/c/desk.c from Rust: the same calls, which mixer.rs declares, the same text.
 //! Each unsafe call lends whole slices that are apart, which is all that the interface asks of its caller.
+mod mixer;
 
-#[repr(C)]
-#[derive(Clone, Copy, Default)]
-struct Plan {
-    block: usize,
-    buffers: usize,
-    indices: usize,
-    coefficients: usize,
-    nodes: usize,
-    steps: usize,
-    words: usize,
-}
-
-#[repr(C)]
-#[derive(Clone, Copy)]
-struct Span {
-    start: u32,
-    len: u32,
-}
-
-#[repr(C)]
-struct InsertIds {
-    send: u32,
-    ret: u32,
-    dry: u32,
-    wet: u32,
-    dryin: u32,
-    wetin: u32,
-}
-
-/// What comes back to an insert, its input and channel counted from 1.
-#[repr(C)]
-struct InsertReturn {
-    input: u32,
-    channel: u32,
-    gain: f32,
-    bypass: bool,
-}
-
-#[repr(C)]
-struct InsertPoint {
-    format: u32,
-    src: Span,
-    gain: f32,
-    slot: u32,
-    ramp: u32,
-    ids: InsertIds,
-    returns: bool,
-    back: InsertReturn,
-}
-
-#[repr(C)]
-struct Status {
-    number: u32,
-    place: u32,
-}
-
-#[repr(C)]
-struct PlanReply {
-    status: Status,
-    plan: Plan,
-}
-
-#[repr(C)]
-struct SpanReply {
-    status: Status,
-    plan: Plan,
-    span: Span,
-}
-
-#[repr(C)]
-struct NodeReply {
-    status: Status,
-    plan: Plan,
-    node: u32,
-}
-
-#[repr(C)]
-struct BufferReply {
-    status: Status,
-    buffer: u32,
-}
-
-#[repr(C)]
-struct CountReply {
-    status: Status,
-    count: usize,
-}
-
-#[repr(C)]
-struct CleanReply {
-    status: Status,
-    clean: bool,
-}
-
-#[repr(C)]
-struct FoldGains {
-    pan_left: f64,
-    pan_right: f64,
-    mono_sum: f64,
-    centre: f64,
-    surround: f64,
-    lfe: f64,
-}
-
-#[rustfmt::skip]
-extern "C" {
-    fn mixer_new(block: usize) -> PlanReply;
-    fn mixer_buffers(plan: Plan, n: usize, indices: *mut u32, len: usize) -> SpanReply;
-    fn mixer_buffer(plan: Plan, span: Span, i: usize, indices: *const u32, len: usize) -> BufferReply;
-    fn mixer_coefficients(plan: Plan, values: *const f32, values_len: usize, area: *mut f32, len: usize) -> SpanReply;
-    fn mixer_node(plan: Plan, id: u32, values: *const f32, values_len: usize, ramp: u32,
-        floats: *mut f32, floats_len: usize, words: *mut u32, words_len: usize) -> NodeReply;
-    fn mixer_step(plan: Plan, record: *const u32, record_len: usize, steps: *mut u32, len: usize) -> PlanReply;
-    fn mixer_insert(plan: Plan, insert: InsertPoint, indices: *mut u32, indices_len: usize, coefficients: *mut f32, coefficients_len: usize,
-        floats: *mut f32, floats_len: usize, words: *mut u32, words_len: usize, steps: *mut u32, steps_len: usize) -> SpanReply;
-    fn mixer_finish(plan: Plan, buffers: *mut f32, len: usize) -> PlanReply;
-    fn mixer_set_param(plan: Plan, id: u32, values: *const f32, values_len: usize, ramp: u32,
-        floats: *mut f32, floats_len: usize, words: *mut u32, words_len: usize) -> Status;
-    fn mixer_process(plan: Plan, indices: *const u32, indices_len: usize, coefficients: *const f32, coefficients_len: usize,
-        floats: *mut f32, floats_len: usize, words: *mut u32, words_len: usize, steps: *const u32, steps_len: usize,
-        buffers: *mut f32, buffers_len: usize, directory: *const u32, directory_len: usize,
-        samples: *const f32, samples_len: usize, output: *mut f32, output_len: usize) -> CountReply;
-    fn mixer_output_sources(plan: Plan, slot: u32, indices: *const u32, indices_len: usize, words: *const u32, words_len: usize,
-        steps: *const u32, steps_len: usize, list: *mut u16, list_len: usize) -> CountReply;
-    fn mixer_clean_answer(plan: Plan, indices: *const u32, indices_len: usize, words: *const u32, words_len: usize,
-        steps: *const u32, steps_len: usize) -> CleanReply;
-    fn mixer_format_channels(format: u32) -> usize;
-    fn mixer_width_matrix(src: u32, dst: u32, gains: FoldGains, normalise: bool, matrix: *mut f32, len: usize) -> Status;
-}
-
-const PATCH: u32 = 7;
-const GAIN: u32 = 248;
-const CLEAR: u32 = 192;
-const SEND: u32 = 1016;
-const OUTPUT: u32 = 1072;
-const MONO: u32 = 0;
-const STEREO: u32 = 1;
-
-/// The floats and the words of a node in its areas.
-const NODE_FLOATS: usize = 72;
-const NODE_WORDS: usize = 3;
-
-/// The words of an entry of a directory.
-const ENTRY_WORDS: usize = 4;
+use mixer::*;
 
 const BLOCK: usize = 4;
-const BUFFERS: usize = 13;
-const NODES: usize = 9;
+const BUFFERS: usize = 14;
+const NODES: usize = 10;
 const CHANNELS: usize = 4;
-const MICROPHONE: u32 = 12;
-const BAND: u32 = 40;
-const BOX: u32 = 60;
 const HALL: u32 = 0;
 const STAGE: u32 = 1;
 const EFFECTS: u32 = 2;
+const MICROPHONE: u32 = 12;
+const BAND: u32 = 40;
+const BOX: u32 = 60;
+const ANNOUNCEMENT: u32 = 80;
+
+/// The ids of the nodes, in the order in which the nodes are made.
 const STRIP_LEVEL: u32 = 100;
 const BAND_LEVEL: u32 = 101;
 const STAGE_LEVEL: u32 = 102;
-const BOX_IDS: InsertIds = InsertIds { send: 103, ret: 104, dry: 105, wet: 106, dryin: 107, wetin: 108 };
+const ANNOUNCEMENT_LEVEL: u32 = 103;
+const BOX_IDS: InsertIds = InsertIds { send: 104, ret: 105, dry: 106, wet: 107, dryin: 108, wetin: 109 };
 
 /// A refusal, by its number and place.
 #[derive(Debug)]
@@ -222,9 +84,9 @@ impl Desk {
         Ok(r.span)
     }
 
-    fn node(&mut self, id: u32, value: f32) -> Result<u32, Refused> {
+    fn node(&mut self, id: u32, value: f32, safe: u32) -> Result<u32, Refused> {
         let (f, w) = (&mut self.floats, &mut self.words);
-        let r = unsafe { mixer_node(self.plan, id, &value, 1, 0, f.as_mut_ptr(), f.len(), w.as_mut_ptr(), w.len()) };
+        let r = unsafe { mixer_node(self.plan, id, &value, 1, 0, safe, f.as_mut_ptr(), f.len(), w.as_mut_ptr(), w.len()) };
         r.status.result()?;
         self.plan = r.plan;
         Ok(r.node)
@@ -274,17 +136,30 @@ impl Desk {
         unsafe { mixer_set_param(self.plan, id, &value, 1, ramp, f.as_mut_ptr(), f.len(), w.as_mut_ptr(), w.len()) }.result()
     }
 
-    /// One block. Of the directory the first `entries` are lent: the microphone at 1, the band at 0.25 and -0.25, the box at 0.5, and last a
-    /// stand-in for the microphone at 0.5.
+    /// Each node goes on from where the old one of its number is, over `ramp` samples, but for a safe one.
+    #[rustfmt::skip]
+    fn adopt(&mut self, old: &Desk, ramp: u32) -> Result<(), Refused> {
+        let pairs: Vec<u32> = (0..NODES as u32).flat_map(|n| [n, n]).collect();
+        unsafe {
+            mixer_adopt(self.plan, self.floats.as_mut_ptr(), self.floats.len(), self.words.as_mut_ptr(), self.words.len(),
+                old.plan, old.floats.as_ptr(), old.floats.len(), old.words.as_ptr(), old.words.len(),
+                pairs.as_ptr(), pairs.len(), ramp)
+        }
+        .result()
+    }
+
+    /// One block. Of the directory the first `entries` are lent: the microphone at 1, the band at 0.25 and -0.25, the box at 0.5, a stand-in for
+    /// the microphone at 0.5, and last an announcement at 1.
     #[rustfmt::skip]
     fn run(&mut self, output: &mut [f32]) -> Result<usize, Refused> {
         let n = BLOCK as u32;
-        let all = [MICROPHONE, 0, 0, n, BAND, 0, n, n, BAND, 1, 2 * n, n, BOX, 0, 3 * n, n, MICROPHONE, 0, 4 * n, n];
+        let all = [MICROPHONE, 0, 0, n, BAND, 0, n, n, BAND, 1, 2 * n, n,
+            BOX, 0, 3 * n, n, MICROPHONE, 0, 4 * n, n, ANNOUNCEMENT, 0, 5 * n, n];
         let directory = &all[..ENTRY_WORDS * self.entries];
-        let mut samples = [1.0; 5 * BLOCK];
+        let mut samples = [1.0; 6 * BLOCK];
         samples[BLOCK..2 * BLOCK].fill(0.25);
         samples[2 * BLOCK..3 * BLOCK].fill(-0.25);
-        samples[3 * BLOCK..].fill(0.5);
+        samples[3 * BLOCK..5 * BLOCK].fill(0.5);
         let r = unsafe {
             mixer_process(self.plan, self.indices.as_ptr(), self.indices.len(), self.coefficients.as_ptr(), self.coefficients.len(),
                 self.floats.as_mut_ptr(), self.floats.len(), self.words.as_mut_ptr(), self.words.len(),
@@ -319,15 +194,18 @@ fn build() -> Result<Desk, Refused> {
     let mut d = Desk::new()?;
     let microphone = d.buffers(1)?;
     let band = d.buffers(2)?;
+    let announcement = d.buffers(1)?;
     let strip = d.buffers(1)?;
     let hall = d.buffers(2)?;
     let stage = d.buffers(1)?;
-    let strip_level = d.node(STRIP_LEVEL, 0.5)?;
-    let band_level = d.node(BAND_LEVEL, 1.0)?;
-    let stage_level = d.node(STAGE_LEVEL, 1.0)?;
+    let strip_level = d.node(STRIP_LEVEL, 0.5, 0)?;
+    let band_level = d.node(BAND_LEVEL, 1.0, 0)?;
+    let stage_level = d.node(STAGE_LEVEL, 1.0, 0)?;
+    let announcement_level = d.node(ANNOUNCEMENT_LEVEL, 1.0, 1)?;
     d.patch(MICROPHONE, 0, microphone)?;
     d.patch(BAND, 0, band)?;
     d.patch(BAND, 1, band)?;
+    d.patch(ANNOUNCEMENT, 0, announcement)?;
     d.step(&[GAIN, strip_level, microphone.start, microphone.len, strip.start, strip.len])?;
     let inserted = d.insert(strip)?;
     d.step(&[CLEAR, hall.start, hall.len])?;
@@ -336,6 +214,8 @@ fn build() -> Result<Desk, Refused> {
     d.send(band_level, band, hall, w)?;
     let w = d.weights(MONO, STEREO)?;
     d.send(band_level, inserted, hall, w)?;
+    let w = d.weights(MONO, STEREO)?;
+    d.send(announcement_level, announcement, hall, w)?;
     let w = d.weights(MONO, MONO)?;
     d.send(stage_level, strip, stage, w)?;
     d.step(&[OUTPUT, hall.start, hall.len, HALL])?;
@@ -354,6 +234,26 @@ fn block(d: &mut Desk) -> Result<(), Refused> {
         println!("  {name:<10}{text}");
     }
     Ok(())
+}
+
+fn gain(d: &Desk, name: &str, id: u32) {
+    let floats = &d.floats[(id - STRIP_LEVEL) as usize * NODE_FLOATS..];
+    println!("  {name:<12} at {:.5}, target {:.5}", floats[0], floats[MAX_VALUES]);
+}
+
+/// An announcement, then the layout built anew, which adopts the nodes of the old one.
+fn announce(old: &mut Desk) -> Result<(), Refused> {
+    println!("an announcement, at a gain of 0.25");
+    old.entries = 6;
+    old.level(ANNOUNCEMENT_LEVEL, 0.25, 0)?;
+    block(old)?;
+    println!("the layout built anew, its nodes adopted over 8 samples, but for the announcement's gain, which is safe");
+    let mut d = build()?;
+    d.entries = 6;
+    d.adopt(old, 8)?;
+    gain(&d, "strip", STRIP_LEVEL);
+    gain(&d, "announcement", ANNOUNCEMENT_LEVEL);
+    block(&mut d)
 }
 
 fn refused<T>(call: &str, r: Result<T, Refused>) {
@@ -384,6 +284,7 @@ fn main() -> Result<(), Refused> {
     d.level(BOX_IDS.dry, 0.0, 4)?;
     d.level(BOX_IDS.wet, 1.0, 4)?;
     block(&mut d)?;
+    announce(&mut d)?;
     refused("a setting of an unknown node", d.level(7, 1.0, 0));
     refused("an output area that is short", d.run(&mut output[1..]));
     d.steps[0] = 1;
