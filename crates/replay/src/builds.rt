@@ -135,7 +135,7 @@ pub fn coefficients(words: &[u32], record: &[u32]) -> bool {
 fn node_answer(words: &[u32], record: &[u32], made: Numbered) -> bool {
     let plan = made.plan;
     let answer = made.answer;
-    numbered(record, 21, answer) && compare::plan_left(words, record, 1, plan)
+    numbered(record, 22, answer) && compare::plan_left(words, record, 1, plan)
 }
 
 fn node_made(
@@ -147,11 +147,13 @@ fn node_made(
 ) -> bool {
     let id = word(record, 19);
     let ramp = word(record, 20);
+    let safe = word(record, 21);
     let made = PlanBuilder::node(
         plan_in(words, record, 0),
         id,
         values,
         ramp,
+        safe,
         floats,
         node_words,
     );
@@ -184,7 +186,7 @@ pub fn nodes_left(
         && compare::words_left(b"node words", words, record, next, node_words)
 }
 
-// Areas: the record, the record after, the values, the node floats and words, both after. Numbers: the id, the ramp, the node's number.
+// Areas: the record, the record after, the values, the node floats and words, both after. Numbers: the id, the ramp, safe, the node's number.
 pub fn node(words: &[u32], record: &[u32]) -> bool {
     let mut values = areas::float_room();
     let mut floats = areas::float_room();

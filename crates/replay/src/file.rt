@@ -11,7 +11,7 @@ const TEXT: usize = 1024;
 
 const MAGIC: u32 = 0x5245_504c;
 
-const VERSION: u32 = 3;
+const VERSION: u32 = 4;
 
 fn wide(n: u8) -> u32 {
     n as u32

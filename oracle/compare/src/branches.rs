@@ -4,8 +4,9 @@ use crate::mapping;
 use crate::mixer::{FoldGains, Span};
 use crate::ops::{Input, Setting};
 use crate::paper;
-use crate::plan::{Areas, Layout, Step, FLOATS, VALUES, WORDS};
+use crate::plan::{Areas, Layout, Step, FLOATS, LEFT, LEN, VALUES};
 use crate::recorded_inserts::INSERTS;
+use crate::recorded_safe::{REFUSED_FOR_SAFE, SAFE_NODES};
 use crate::rust;
 
 /// These take much room, and are reached once.
@@ -40,12 +41,18 @@ pub const LIMITS: &[&str] = &[
     FIVE_WORDS,
 ];
 
+/// What takes much room.
+pub fn long(name: &str) -> bool {
+    [LONG_BLOCK, LONG_DIRECTORY, entries::PATCH[FULL], entries::LOOKUP[FULL]].contains(&name) || INSERTS.contains(&name)
+}
+
 /// How often a branch is to be reached, where it may be reached often.
 pub fn often(name: &str, times: u32) -> u32 {
-    if [LONG_BLOCK, LONG_DIRECTORY, entries::PATCH[FULL], entries::LOOKUP[FULL]].contains(&name) || INSERTS.contains(&name) {
-        return 1;
+    match name {
+        _ if long(name) => 1,
+        _ if SAFE_NODES.contains(&name) || REFUSED_FOR_SAFE.contains(&name) => 2,
+        _ => times,
     }
-    times
 }
 
 /// What plans, runs, settings, adoptions and lists must show.
@@ -213,7 +220,7 @@ impl Nodes<'_> {
     }
 
     fn len(&self, node: u32) -> u32 {
-        self.areas.words[WORDS * node as usize + 1]
+        self.areas.word(node as usize, LEN)
     }
 
     /// A block with a whole piece of 16 samples, and some after the last one.
@@ -297,7 +304,7 @@ impl Nodes<'_> {
 /// What a run reaches, from the areas before it and the samples that it appends.
 pub fn run(l: &Layout, a: &Areas, input: &Input, output: &[f32], more: usize) -> Vec<&'static str> {
     let nodes = a.plan.nodes;
-    let left = (0..nodes).map(|i| a.words[WORDS * i + 2]).collect();
+    let left = (0..nodes).map(|i| a.word(i, LEFT)).collect();
     let mut n = Nodes { areas: a, left, ramped: vec![false; nodes], block: l.block, seen: Vec::new() };
     l.steps.iter().for_each(|s| n.step(l, s, input));
     let outputs = l.steps.iter().filter(|s| matches!(s, Step::Output { .. })).count();
@@ -330,7 +337,7 @@ pub fn setting(l: &Layout, a: &Areas, s: &Setting) -> Vec<&'static str> {
         ["set at once", "set with a ramp over blocks", "set with a ramp that ends in the block", "set with a ramp as long as the block"];
     let mut seen = vec![moving(names, s.ramp, l.block)];
     let node = l.nodes.iter().position(|n| n.id == s.id).unwrap();
-    let (len, left) = (a.words[WORDS * node + 1] as usize, a.words[WORDS * node + 2]);
+    let (len, left) = (a.word(node, LEN) as usize, a.word(node, LEFT));
     let when = [
         (s.values.is_empty(), "set, no values"),
         (s.values.len() < len && !s.values.is_empty(), "set, fewer values than the node has"),

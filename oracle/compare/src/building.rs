@@ -3,7 +3,7 @@ use crate::inserts;
 use crate::judge::{same, Fault, Found, Judge};
 use crate::layouts::Gen;
 use crate::mixer::{self, BufferReply, InsertPoint, NodeReply, PlanReply, SpanReply, Status};
-use crate::plan::{Areas, Call, Layout, NodeCall, Step};
+use crate::plan::{Areas, Call, Layout, NodeCall, Step, SAFE, WORDS};
 use crate::rust::{self, PlanBuilder};
 use crate::twin::{areas, Twin};
 use reference::engine::plan::peek;
@@ -99,11 +99,13 @@ impl Build<'_> {
     fn node(&mut self, n: &NodeCall) -> Found {
         let mut node = self.rust.node(n.id, &n.values, n.ramp);
         let p = &mut self.port;
-        let reply = mixer::node(p.plan, n.id, &n.values, n.ramp, &mut p.floats, &mut p.words);
+        let reply = mixer::node(p.plan, n.id, &n.values, n.ramp, n.safe, &mut p.floats, &mut p.words);
         p.plan = reply.plan;
         let nodes = peek::nodes(&self.rust);
         rust::nodes_to(nodes, &mut self.want.floats, &mut self.want.words);
         self.want.plan.nodes = nodes.len();
+        self.want.words[WORDS * node as usize + SAFE] = n.safe ^ self.j.plants(Fault::BuiltSafe) as u32;
+        self.j.counts.safes.built(n.safe);
         if self.j.plants(Fault::BuiltNode) {
             node += 1;
         }

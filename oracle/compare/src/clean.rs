@@ -131,8 +131,8 @@ impl Gen {
         let mut values = vec![0.0; columns * rows];
         mixer::width_matrix(from, to, numbers::gains(&mut self.r), self.r.percent(50), &mut values);
         let ids: Vec<u32> = d.l.nodes.iter().map(|n| n.id).collect();
-        let (id, ramp) = (self.id(&ids), self.ramp());
-        d.l.nodes.push(NodeCall { id, values, ramp });
+        let (id, ramp, safe) = (self.id(&ids), self.ramp(), self.safe());
+        d.l.nodes.push(NodeCall { id, values, ramp, safe });
         for b in 0..columns {
             d.add(self.patch(b));
         }

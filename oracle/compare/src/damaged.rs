@@ -6,9 +6,9 @@ use crate::layouts::Gen;
 use crate::mixer::{self, CleanReply, CountReply, Status};
 use crate::ops::Input;
 use crate::paper::{self, Lent, Tables};
-use crate::plan::{Areas, Layout, Step, FLOATS, WORDS};
+use crate::plan::{Areas, Layout, Step, FLOATS, ID, SAFE, WORDS};
 use crate::plans;
-use crate::refused::{kept, kept_answer, off, off32, process};
+use crate::refused::{by_safe, kept, kept_answer, off, off32, process, without_safe};
 use crate::twin::areas;
 use crate::{rust, traced};
 use reference::engine::plan::peek;
@@ -54,10 +54,16 @@ pub fn case(j: &mut Judge, seed: u64) -> Found {
         for turn in 0..3 {
             a.copy(&twin.port);
             damage(&mut g, &twin.layout, &mut a, place);
+            j.counts.safes.damaged_run += other_safe(&twin.port, &a, place) as u64;
             judge(j, &mut g, &a, &input, &mut copies).map_err(|e| format!("{place:?}, turn {turn}: {e}"))?;
         }
     }
     Ok(())
+}
+
+/// Whether a node was made safe, or is so no longer.
+fn other_safe(before: &Areas, a: &Areas, place: Place) -> bool {
+    matches!(place, Place::NodeWord(i) if i % WORDS == SAFE && a.words[i] != before.words[i] && a.words[i] <= paper::MAX_SAFE)
 }
 
 fn places(a: &Areas, steps: usize) -> Vec<Place> {
@@ -86,9 +92,9 @@ fn damage(g: &mut Gen, l: &Layout, a: &mut Areas, place: Place) {
         Place::Length(i) => length(g, a, i),
         Place::Index(i) => a.indices[i] = off32(r, a.indices[i]),
         Place::NodeWord(i) => {
-            let other = a.words[WORDS * r.below(a.plan.nodes)];
+            let other = a.word(r.below(a.plan.nodes), ID);
             let near = off32(r, a.words[i]);
-            a.words[i] = r.pick(&[near, near, other, 24, 25, paper::MAX_RAMP, paper::MAX_RAMP + 1]);
+            a.words[i] = r.pick(&[near, near, other, 1, 2, 24, 25, paper::MAX_RAMP, paper::MAX_RAMP + 1]);
         }
         Place::StepWord(i) => {
             let near = off32(r, a.steps[i]);
@@ -204,7 +210,9 @@ fn run(
             ran(j, a, &steps, input, copies).map(Some)
         }
         (need, _) => {
-            refusal(j, "process", need.err().unwrap_or_default(), reply.status)?;
+            let without = || paper::run(&without_safe(a), &input.directory, input.samples.len(), usize::MAX);
+            let status = by_safe(j, Fault::DamagedSafe, need.err().unwrap_or_default(), without);
+            refusal(j, "process", status, reply.status)?;
             same("count of a refused process", &0, &reply.count)?;
             kept(j, a, &copies.port)?;
             kept_answer(j, &copies.output)?;

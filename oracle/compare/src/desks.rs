@@ -30,7 +30,7 @@ impl Draft {
     /// A node at rest; its id is its number and 1,000.
     pub fn node(&mut self, values: &[f32]) -> u32 {
         let node = self.0.nodes.len() as u32;
-        let call = NodeCall { id: 1000 + node, values: values.to_vec(), ramp: 0 };
+        let call = NodeCall { id: 1000 + node, values: values.to_vec(), ramp: 0, safe: 0 };
         self.0.nodes.push(call.clone());
         self.0.calls.push(Call::Node(call));
         node

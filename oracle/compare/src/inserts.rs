@@ -3,7 +3,7 @@ use crate::folds::{channels, FORMATS};
 use crate::judge::{same, Fault, Judge};
 use crate::mixer::{self, InsertPoint, InsertReturn, Plan, Span, SpanReply, Status};
 use crate::paper::{self, Answer};
-use crate::plan::{span, Areas, Call, Layout, NodeCall, Step, FLOATS, WORDS};
+use crate::plan::{span, Areas, Call, Layout, NodeCall, Step, FLOATS, SAFE, WORDS};
 use crate::refused::kept;
 use crate::rng::Rng;
 use crate::rust::{self, PlanBuilder};
@@ -100,7 +100,7 @@ pub fn extend(l: &mut Layout, i: &InsertPoint) -> Span {
     l.index.extend(&added.indices);
     l.coefficients.extend(&added.coefficients);
     let values = |n: &Raw| n.target[..n.len as usize].to_vec();
-    l.nodes.extend(added.nodes.iter().map(|n| NodeCall { id: n.id, values: values(n), ramp: i.ramp }));
+    l.nodes.extend(added.nodes.iter().map(|n| NodeCall { id: n.id, values: values(n), ramp: i.ramp, safe: 0 }));
     l.steps.extend(&added.steps);
     l.calls.push(Call::Insert(*i));
     added.span
@@ -122,6 +122,7 @@ impl Added {
         for (k, n) in self.nodes.iter().enumerate() {
             let at = p.nodes + k;
             rust::node_to(n, &mut a.floats[FLOATS * at..][..FLOATS], &mut a.words[WORDS * at..][..WORDS]);
+            a.words[WORDS * at + SAFE] = 0;
         }
         for s in &self.steps {
             let record = s.record();
@@ -164,6 +165,9 @@ pub fn follow(j: &mut Judge, b: &mut PlanBuilder, i: &InsertPoint, want: &mut Ar
     added.plant(j, i, want.plan.indices);
     j.counts.inserts.made(&want.plan, i);
     added.put(want);
+    if j.plants(Fault::InsertSafe) {
+        want.words[WORDS * (want.plan.nodes - 1) + SAFE] = 1;
+    }
     SpanReply { status: Status::default(), plan: want.plan, span: added.span }
 }
 

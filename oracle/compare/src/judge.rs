@@ -1,7 +1,7 @@
 //! Comparison: the first difference ends a run. A planted fault changes what the reference says, so that a run must find it.
 use crate::entries::Tally;
 use crate::mixer::Status;
-use crate::shapes::{Inserts, Pairs, Shapes};
+use crate::shapes::{Inserts, Pairs, Safes, Shapes};
 use std::fmt::Debug;
 
 /// The first difference, in words.
@@ -80,6 +80,7 @@ faults! {
     Left: "a node's left off by one",
     Id: "a node's id",
     Len: "a node's len",
+    Safe: "a node's safe",
     BehindCounts: "a word behind the entries that a plan counts",
     SourceMore: "a source list with one input more",
     SourceLess: "a source list with one input less",
@@ -90,6 +91,7 @@ faults! {
     Clean: "the other clean answer",
     BuiltSpan: "the start of a builder's span",
     BuiltNode: "a builder's node number",
+    BuiltSafe: "a built node with the other safe",
     BuiltCount: "a count in a builder's record",
     BuiltWord: "a word of a step's record",
     BuiltWeight: "the last bit of a coefficient",
@@ -103,7 +105,23 @@ faults! {
     InsertLast: "an insert whose last channel is not tested",
     InsertIds: "an insert whose ids are held against those of the plan alone",
     InsertNodes: "an insert that counts a node less than it makes",
+    InsertSafe: "an insert whose last node is safe",
     OldNode: "a node of the old plan after an adoption",
+    SafeTaken: "an adoption that skips no pair",
+    SafeOld: "an adoption that skips by the old node's safe",
+    SafeSwapped: "an adoption that skips the pairs of the nodes that are not safe",
+    SafeList: "an adoption that skips its whole list for a safe node",
+    SafeRest: "an adoption that ends at the pair of a safe node",
+    SafeCur: "a safe node whose cur is taken over",
+    SafeRamp: "a safe node that ramps after an adoption",
+    SetSafe: "a setting after which a safe node is safe no longer",
+    RunSafe: "a run after which a safe node is safe no longer",
+    SafeFirst: "a safe above 1 that is found before a ramp that is too long, at the builder",
+    UnreadSet: "a setting that takes a safe above 1",
+    UnreadRun: "a run that takes a safe above 1",
+    UnreadUnused: "a run that takes a safe above 1 of a node that no step uses",
+    UnreadNew: "an adoption that takes a safe above 1 of a new node",
+    UnreadOld: "an adoption that takes a safe above 1 of an old node",
     FirstEntry: "the first entry for a channel decides in a run",
     LongEntry: "an entry that is too short is passed over in a run for an earlier one",
     Part: "a looked-up part that is one sample shorter",
@@ -130,6 +148,7 @@ faults! {
     DamagedNumber: "the number of a damaged plan's refusal",
     DamagedPlace: "the place of a damaged plan's refusal",
     DamagedTaken: "a damaged plan that is taken",
+    DamagedSafe: "a damaged plan that is taken with a safe above 1",
     PairBit: "the last bit of an output sample of the second list",
     PairSign: "the sign of a zero in an output of the second list",
     PairNan: "a number where an output sample of the second list is NaN",
@@ -140,6 +159,7 @@ faults! {
     PairSetting: "a setting in the second list only",
     PairRefused: "a refused setting of the second list that sets a node",
     PairBuilt: "a refused builder call of the second build that sets a node",
+    PairSafe: "a node's safe after the second list",
 }
 
 /// What a run has compared.
@@ -156,6 +176,7 @@ pub struct Counts {
     pub refused: [u64; 19],
     pub shapes: Shapes,
     pub inserts: Inserts,
+    pub safes: Safes,
     /// What directories had for the channels of Patches in runs, and for those that were looked up.
     pub patched: Tally,
     pub looked_up: Tally,

@@ -9,6 +9,9 @@ pub struct Gen {
     pub r: Rng,
     pub wild: Wild,
     pub block: usize,
+    /// Which nodes are safe, and how many of a hundred: from numbers of their own, so that a case is otherwise what it would be without them.
+    safes: Rng,
+    safe_of_100: usize,
 }
 
 impl Gen {
@@ -20,7 +23,9 @@ impl Gen {
             6..=8 => r.pick(&[1, 2, 16, 31, 32, 33, 48, 64, 100, 127, 128, 256]),
             _ => r.pick(&[480, 511, 512, 960, 1000, 1023, 1024]),
         };
-        Gen { r, wild, block }
+        let mut safes = Rng::new(!seed);
+        let safe_of_100 = safes.pick(&[0, 0, 33, 33, 90]);
+        Gen { r, wild, block, safes, safe_of_100 }
     }
 
     /// Ramps around the block, and the longest ones.
@@ -40,6 +45,15 @@ impl Gen {
             13 => 48_000,
             _ => self.r.range(1, 6 * self.block) as u32,
         }
+    }
+
+    pub fn safe(&mut self) -> u32 {
+        self.safes.percent(self.safe_of_100) as u32
+    }
+
+    /// One that somebody else writes.
+    pub fn other_safe(&mut self) -> u32 {
+        self.safes.below(2) as u32
     }
 
     pub fn node_len(&mut self) -> usize {
@@ -134,7 +148,7 @@ impl Gen {
         for len in lens {
             ids.push(self.id(&ids));
             let values = self.wild.gains(&mut self.r, len);
-            l.nodes.push(NodeCall { id: ids[ids.len() - 1], values, ramp: self.ramp() });
+            l.nodes.push(NodeCall { id: ids[ids.len() - 1], values, ramp: self.ramp(), safe: self.safe() });
         }
     }
 

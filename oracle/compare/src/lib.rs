@@ -1,4 +1,5 @@
 //! Compares the port with the reference in one process, call by call. ../README.md says what is compared.
+mod adoptions;
 mod branches;
 mod building;
 mod clean;
@@ -29,6 +30,7 @@ mod recorded;
 mod recorded_folds;
 mod recorded_inserts;
 mod recorded_refusals;
+mod recorded_safe;
 mod refused;
 mod rng;
 mod rust;
@@ -85,6 +87,10 @@ fn print(c: &Counts) {
     let inserts: Vec<String> = c.inserts.list().iter().map(|(n, what)| format!("{what} {n}")).collect();
     if c.inserts.all > 0 {
         println!("inserts: {}", inserts.join(", "));
+    }
+    let safes: Vec<String> = c.safes.list().iter().map(|(n, what)| format!("{what} {n}")).collect();
+    if c.safes.nodes > 0 {
+        println!("nodes: {}", safes.join(", "));
     }
     for (what, entries) in [("channels of Patches", &c.patched), ("channels looked up", &c.looked_up)] {
         let entries: Vec<String> = entries.list().iter().filter(|e| e.0 > 0).map(|(n, what)| format!("{what} {n}")).collect();

@@ -1,10 +1,10 @@
 //! The two lists of a pair: settings and runs after the plan that `finish` left, alike in what is accepted, with other refused calls in each.
 use crate::entries::{heard, Entries};
-use crate::judge::{alike, same, Found, Judge};
+use crate::judge::{alike, same, words, Fault, Found, Judge};
 use crate::layouts::Gen;
 use crate::mixer::{self, CountReply, Status};
 use crate::ops::Setting;
-use crate::plan::{Areas, Layout, Step, VALUES};
+use crate::plan::{Areas, Layout, Step, SAFE, VALUES};
 use crate::planted::{set_by_hand, Last, ODD_VALUE};
 use crate::refused::process;
 use crate::signals::{enter, same_values, Carries, Channel};
@@ -105,7 +105,17 @@ impl<'a> Pair<'a> {
             }
         }
         self.strew(j, g, &mut a, often)?;
+        self.safe(j, &a, side)?;
         Ok(wrote)
+    }
+
+    /// After a list each node's safe is the one that it was built with.
+    fn safe(&self, j: &mut Judge, a: &Areas, side: usize) -> Found {
+        let mut built: Vec<u32> = self.l.nodes.iter().map(|n| n.safe).collect();
+        if let Some(last) = built.last_mut().filter(|_| side == 1 && j.plants(Fault::PairSafe)) {
+            *last ^= 1;
+        }
+        words("safe", &built, &(0..a.plan.nodes).map(|k| a.word(k, SAFE)).collect::<Vec<_>>())
     }
 
     /// The runs from a sample up to the next one at which there may be settings.

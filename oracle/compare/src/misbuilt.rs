@@ -1,10 +1,11 @@
 //! Builder calls that are refused. Document 01 gives the numbers; which count and which area a call tests is in docs/DECISIONS.md, point 2.
-use crate::judge::{same, Found, Judge};
+use crate::judge::{same, Fault, Found, Judge};
 use crate::layouts::Gen;
 use crate::mixer::{self, BufferReply, NodeReply, Plan, PlanReply, Span, SpanReply, Status};
-use crate::paper::{self, test, Answer, MAX_RAMP};
-use crate::plan::{Areas, FLOATS, VALUES, WORDS};
+use crate::paper::{self, test, Answer, MAX_RAMP, MAX_SAFE};
+use crate::plan::{Areas, FLOATS, ID, VALUES, WORDS};
 use crate::refused::{kept, off, off32};
+use crate::rng::Rng;
 use crate::twin::Twin;
 
 /// `count` and `more` together are above `limit`.
@@ -22,13 +23,19 @@ pub fn coefficients(p: &Plan, n: usize, area: usize) -> Answer<()> {
     test(over(p.coefficients, n, area), 2)
 }
 
-pub fn node(a: &Areas, id: u32, values: usize, ramp: u32) -> Answer<()> {
+pub fn node(a: &Areas, id: u32, values: usize, ramp: u32, safe: u32) -> Answer<()> {
     let n = a.plan.nodes;
     test(over(n, 1, paper::MAX_NODES), 5)?;
     test(a.floats.len() < FLOATS * (n + 1) || a.words.len() < WORDS * (n + 1), 2)?;
     test(values > VALUES, 7)?;
-    test((0..n).any(|i| a.words[WORDS * i] == id), 8)?;
-    test(ramp > MAX_RAMP, 10)
+    test((0..n).any(|i| a.word(i, ID) == id), 8)?;
+    test(ramp > MAX_RAMP, 10)?;
+    test(safe > MAX_SAFE, 14)
+}
+
+/// A safe for `node`, above 1 now and then.
+pub fn any_safe(r: &mut Rng) -> u32 {
+    r.pick(&[0, 1, 2, u32::MAX])
 }
 
 pub fn step(p: &Plan, record: &[u32], area: usize) -> Answer<()> {
@@ -115,18 +122,24 @@ fn misnew(j: &mut Judge, g: &mut Gen) -> Found {
 }
 
 fn misnode(j: &mut Judge, g: &mut Gen, mut a: Areas) -> Found {
-    if g.r.percent(50) && a.plan.nodes < 64 {
+    if g.r.percent(70) && a.plan.nodes < 64 {
         a.floats.resize(FLOATS * (a.plan.nodes + 1), 1.0);
         a.words.resize(WORDS * (a.plan.nodes + 1), 1);
     }
     let before = a.clone();
-    let used = if a.plan.nodes > 0 { a.words.first().copied() } else { None };
+    let used = if a.plan.nodes > 0 { a.words.get(ID).copied() } else { None };
     let any = g.r.next() as u32;
-    let id = g.r.pick(&[used.unwrap_or(0), any]);
-    let values = vec![1.5; g.r.pick(&[0, 1, 24, 25, 100])];
-    let ramp = g.r.pick(&[0, MAX_RAMP, MAX_RAMP + 1, u32::MAX]);
-    let Err(status) = node(&a, id, values.len(), ramp) else { return Ok(()) };
-    let reply = mixer::node(a.plan, id, &values, ramp, &mut a.floats, &mut a.words);
+    let id = g.r.pick(&[used.unwrap_or(any), any, any]);
+    let values = vec![1.5; g.r.pick(&[0, 1, 24, 24, 25, 100])];
+    let (ramp, safe) = (g.r.pick(&[0, 7, MAX_RAMP, MAX_RAMP + 1, u32::MAX]), any_safe(&mut g.r));
+    let Err(mut status) = node(&a, id, values.len(), ramp, safe) else { return Ok(()) };
+    let both = status.number == 10 && safe > MAX_SAFE;
+    j.counts.safes.refused_14 += (status.number == 14) as u64;
+    j.counts.safes.refused_10 += both as u64;
+    if j.plants_if(both, Fault::SafeFirst) {
+        status.number = 14;
+    }
+    let reply = mixer::node(a.plan, id, &values, ramp, safe, &mut a.floats, &mut a.words);
     j.refusal("node", status, reply.status)?;
     same("refused node", &NodeReply { status, plan: a.plan, node: 0 }, &reply)?;
     kept(j, &before, &a)

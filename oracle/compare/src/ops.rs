@@ -1,7 +1,7 @@
 //! What is done with a plan, at random: settings, blocks, adoptions, and areas that somebody else wrote.
 use crate::layouts::Gen;
 use crate::paper::MAX_ENTRIES;
-use crate::plan::{Layout, Step, FLOATS};
+use crate::plan::{Areas, Layout, Step, FLOATS, LEFT, LEN, SAFE, WORDS};
 
 #[derive(Clone, Debug)]
 pub struct Setting {
@@ -17,13 +17,22 @@ pub struct Input {
     pub samples: Vec<f32>,
 }
 
-/// A node's new len, left and rows.
+/// A node's new len, left, safe and rows.
 #[derive(Clone, Debug)]
 pub struct NodePoke {
     pub node: usize,
     pub len: u32,
     pub left: u32,
+    pub safe: u32,
     pub floats: Vec<f32>,
+}
+
+impl NodePoke {
+    pub fn put(&self, a: &mut Areas) {
+        a.floats[FLOATS * self.node..][..FLOATS].copy_from_slice(&self.floats);
+        let words = &mut a.words[WORDS * self.node..];
+        (words[LEN], words[LEFT], words[SAFE]) = (self.len, self.left, self.safe);
+    }
 }
 
 impl Gen {
@@ -141,6 +150,6 @@ impl Gen {
 
     pub fn node_poke(&mut self, nodes: usize) -> NodePoke {
         let floats = (0..FLOATS).map(|_| self.wild.gain(&mut self.r)).collect();
-        NodePoke { node: self.r.below(nodes), len: self.node_len() as u32, left: self.ramp(), floats }
+        NodePoke { node: self.r.below(nodes), len: self.node_len() as u32, left: self.ramp(), safe: self.other_safe(), floats }
     }
 }

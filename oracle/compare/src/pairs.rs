@@ -110,7 +110,7 @@ fn accepted(g: &mut Gen, a: &mut Areas, call: &Call) -> Found {
             (reply.status, reply.plan)
         }
         Call::Node(n) => {
-            let reply = mixer::node(a.plan, n.id, &same_values(&mut g.r, &n.values), n.ramp, &mut a.floats, &mut a.words);
+            let reply = mixer::node(a.plan, n.id, &same_values(&mut g.r, &n.values), n.ramp, n.safe, &mut a.floats, &mut a.words);
             (reply.status, reply.plan)
         }
         Call::Step(s) => {
@@ -174,6 +174,7 @@ fn pair(j: &mut Judge, g: &mut Gen, l: &Layout, built: [&Areas; 2], lists: &mut 
     p.count(j, &first, &second);
     j.counts.pairs.listed += !equal.is_empty() as u64;
     j.counts.pairs.mixed += mixed(l, slot) as u64;
+    j.counts.pairs.safe += l.nodes.iter().any(|n| n.safe > 0) as u64;
     j.counts.pairs.inserts += (l.inserts().count() > 0) as u64;
     j.counts.pairs.returns += l.inserts().any(|i| i.returns) as u64;
     j.counts.pairs.several += (outputs(l, slot) > 1) as u64;

@@ -1,9 +1,9 @@
 //! Document 01's checks, written from its words a second time: the first fault in its order answers. Nothing here is taken from the port's code.
 //! Where the words leave room (whose words end where, which nodes are lent), docs/DECISIONS.md, points 1 to 8, 12, is followed. The channel lookup
-//! goes by request C-11, an insert's own tests by request C-12.
+//! goes by request C-11, an insert's own tests by request C-12, a node's safe by request C-13.
 use crate::judge::Fault;
 use crate::mixer::{InsertPoint, Plan, Span, Status};
-use crate::plan::{Areas, Step, FLOATS, VALUES, WORDS};
+use crate::plan::{Areas, Step, FLOATS, ID, LEFT, LEN, SAFE, VALUES, WORDS};
 
 pub const MAX_BLOCK: usize = 1024;
 pub const MAX_BUFFERS: usize = 256;
@@ -13,6 +13,7 @@ pub const MAX_NODES: usize = 64;
 pub const MAX_STEPS: usize = 512;
 pub const MAX_ENTRIES: usize = 512;
 pub const MAX_RAMP: u32 = 16_777_216;
+pub const MAX_SAFE: u32 = 1;
 pub const INPUTS: u32 = 256;
 pub const SLOTS: u32 = 32;
 
@@ -64,7 +65,7 @@ fn over_limit(p: &Plan) -> bool {
 }
 
 pub fn id_twice(words: &[u32], nodes: usize) -> bool {
-    let id = |i: usize| words[WORDS * i];
+    let id = |i: usize| words[WORDS * i + ID];
     (0..nodes).any(|i| (0..i).any(|j| id(i) == id(j)))
 }
 
@@ -149,9 +150,14 @@ fn outside(t: &Tables, s: &Step) -> bool {
     }
 }
 
-/// Number 14: a node whose len or left is too large.
+/// Number 14: a node whose len, left or safe is too large.
 pub fn bad_node(words: &[u32], nodes: usize) -> bool {
-    words[..WORDS * nodes].chunks(WORDS).any(|w| w[1] as usize > VALUES || w[2] > MAX_RAMP)
+    words[..WORDS * nodes].chunks(WORDS).any(|w| w[LEN] as usize > VALUES || w[LEFT] > MAX_RAMP || w[SAFE] > MAX_SAFE)
+}
+
+/// The pairs (new, old) that an adoption does not skip: the new node's safe decides.
+pub fn not_skipped(new: &Areas, pairs: &[u32]) -> Vec<u32> {
+    pairs.chunks_exact(2).filter(|p| !new.is_safe(p[0])).flatten().copied().collect()
 }
 
 /// Number 12.
@@ -192,7 +198,7 @@ pub fn set(a: &Areas, id: u32, ramp: u32) -> Answer<()> {
     test(bad_node(&a.words, n), 14)?;
     test(id_twice(&a.words, n), 8)?;
     test(ramp > MAX_RAMP, 10)?;
-    test(!(0..n).any(|i| a.words[WORDS * i] == id), 9)
+    test(!(0..n).any(|i| a.word(i, ID) == id), 9)
 }
 
 pub fn adopt(new: &Areas, old: &Areas, pairs: usize, ramp: u32) -> Answer<()> {
@@ -280,7 +286,7 @@ pub fn insert(a: &Areas, i: &InsertPoint, wrong: Option<Fault>) -> Answer<()> {
     let short_nodes = short(a.floats.len(), nodes, FLOATS) || short(a.words.len(), nodes, WORDS);
     test(lists || short_nodes || over(p.words, more.words, a.steps.len()), 2)?;
     let new = [i.ids.send, i.ids.ret, i.ids.dry, i.ids.wet, i.ids.dryin, i.ids.wetin];
-    let used = |id: &u32| (0..p.nodes).any(|k| a.words[WORDS * k] == *id);
+    let used = |id: &u32| (0..p.nodes).any(|k| a.word(k, ID) == *id);
     let again = (0..more.nodes).any(|k| new[..k].contains(&new[k])) && wrong != Some(Fault::InsertIds);
     test(new[..more.nodes].iter().any(used) || again, 8)?;
     test(i.ramp > MAX_RAMP, 10)

@@ -4,7 +4,12 @@ use crate::mixer::{InsertPoint, Plan, Span};
 /// Values of a node; its floats and words in the areas.
 pub const VALUES: usize = 24;
 pub const FLOATS: usize = 3 * VALUES;
-pub const WORDS: usize = 3;
+pub const WORDS: usize = 4;
+/// Places among the words of a node.
+pub const ID: usize = 0;
+pub const LEN: usize = 1;
+pub const LEFT: usize = 2;
+pub const SAFE: usize = 3;
 
 pub fn span(start: usize, len: usize) -> Span {
     Span { start: start as u32, len: len as u32 }
@@ -39,6 +44,7 @@ pub struct NodeCall {
     pub id: u32,
     pub values: Vec<f32>,
     pub ramp: u32,
+    pub safe: u32,
 }
 
 #[derive(Clone, Debug)]
@@ -87,6 +93,14 @@ impl Layout {
         }
     }
 
+    /// Whether a step uses a node.
+    pub fn uses(&self, node: usize) -> bool {
+        self.steps.iter().any(|s| match *s {
+            Step::Gain { node: n, .. } | Step::Matrix { node: n, .. } | Step::Send { node: n, .. } => n as usize == node,
+            _ => false,
+        })
+    }
+
     pub fn ids(&self) -> Vec<u32> {
         self.nodes.iter().map(|n| n.id).collect()
     }
@@ -133,5 +147,15 @@ impl Areas {
             steps: vec![0xdead_beef; l.counts().words + more],
             buffers: vec![junk; l.buffers * l.block + more],
         }
+    }
+
+    /// A word of a node.
+    pub fn word(&self, node: usize, place: usize) -> u32 {
+        self.words[WORDS * node + place]
+    }
+
+    /// Whether the plan has this node, and it is safe.
+    pub fn is_safe(&self, node: u32) -> bool {
+        (node as usize) < self.plan.nodes && self.word(node as usize, SAFE) != 0
     }
 }

@@ -2,7 +2,7 @@
 use crate::clean::buffers;
 use crate::judge::{Fault, Judge};
 use crate::lists::Wrote;
-use crate::plan::{Areas, Layout, Step, FLOATS, VALUES, WORDS};
+use crate::plan::{Areas, Layout, Step, FLOATS, LEFT, VALUES, WORDS};
 use crate::signals::{Carries, Channel};
 
 /// A gain, and a sample, that no case has.
@@ -49,7 +49,7 @@ pub fn set_by_hand(a: &mut Areas, way: Way) {
     let Some((node, value)) = way.gain else { return };
     a.floats[FLOATS * node + value] = ODD_VALUE;
     a.floats[FLOATS * node + VALUES + value] = ODD_VALUE;
-    a.words[WORDS * node + 2] = 0;
+    a.words[WORDS * node + LEFT] = 0;
 }
 
 /// What is planted at the last run: a setting more, or a refused one that sets all the same, before it; or an entry more in its directory.

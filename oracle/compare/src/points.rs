@@ -5,7 +5,7 @@ use crate::judge::{same, Found, Judge};
 use crate::layouts::Gen;
 use crate::mixer::{self, InsertIds, InsertPoint, InsertReturn, Plan, Status};
 use crate::paper::{self, insert_growth, test, Lent, MAX_RAMP, MAX_STEPS};
-use crate::plan::{span, Areas, Layout, Step, FLOATS, WORDS};
+use crate::plan::{span, Areas, Layout, Step, FLOATS, ID, WORDS};
 use crate::twin::Twin;
 
 /// Steps that may follow an insert in a layout.
@@ -116,7 +116,7 @@ impl Gen {
         let mut ids = inserts::ids(&i);
         for k in 0..a.plan.nodes.min(100) {
             ids.push(self.id(&ids));
-            a.words[WORDS * k] = ids[ids.len() - 1];
+            a.words[WORDS * k + ID] = ids[ids.len() - 1];
         }
         if self.r.percent(often) {
             self.shorten(&mut a, &i);
@@ -181,7 +181,7 @@ impl Gen {
         let ids = &mut i.ids;
         let nodes = a.plan.nodes.min(a.words.len() / WORDS);
         let own = self.r.pick(&[ids.send, ids.ret, ids.dry, ids.wet, ids.dryin, ids.wetin]);
-        let other = a.words.get(WORDS * self.r.below(nodes)).copied().unwrap_or(own);
+        let other = a.words.get(WORDS * self.r.below(nodes) + ID).copied().unwrap_or(own);
         let id = self.r.pick(&[own, other]);
         let all = [&mut ids.send, &mut ids.ret, &mut ids.dry, &mut ids.wet, &mut ids.dryin, &mut ids.wetin];
         if let Some(to) = all.into_iter().nth(self.r.below(6)) {

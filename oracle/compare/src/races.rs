@@ -5,7 +5,7 @@ use crate::layouts::Gen;
 use crate::mixer::{self, CountReply, FoldGains, Status, StereoReply};
 use crate::ops::{Input, Setting};
 use crate::paper::MAX_RAMP;
-use crate::plan::{Areas, Layout, Step, WORDS};
+use crate::plan::{Areas, Layout, Step, LEFT, WORDS};
 use crate::rng::Rng;
 use crate::stopwatch::Race;
 use crate::traced::PLACES;
@@ -120,7 +120,7 @@ impl Desk {
     /// Nodes that were ramping still are, and so were for the whole of the last block.
     fn under_way(&self) -> Found {
         let nodes = self.twin.layout.nodes.len();
-        let left = |words: &[u32]| -> Vec<bool> { words.chunks_exact(WORDS).take(nodes).map(|w| w[2] > 0).collect() };
+        let left = |words: &[u32]| -> Vec<bool> { words.chunks_exact(WORDS).take(nodes).map(|w| w[LEFT] > 0).collect() };
         same("nodes that ramp", &left(&self.node_words), &left(&self.twin.port.words))
     }
 }
@@ -157,7 +157,7 @@ impl Race for Desk {
 
     fn compare(&self) -> Found {
         let t = &self.twin;
-        let (mut node_floats, mut node_words) = (t.port.floats.clone(), t.port.words.clone());
+        let (mut node_floats, mut node_words) = (t.port.floats.clone(), self.node_words.clone());
         rust::nodes_to(&t.rust.nodes, &mut node_floats, &mut node_words);
         same("refused", &0, &self.refused)?;
         floats("output", &self.rust_output.samples, &self.output)?;

@@ -1,14 +1,15 @@
 //! `oracle record FILE`: a sample of the reference's answers as a file, small enough to be kept with the port, whose program `replay` runs it.
 //! A case is taken where it reaches something that was not reached often enough yet, so that few cases reach everything on the lists of `branches.rs`,
-//! `entries.rs`, `recorded_inserts.rs` and `recorded_refusals.rs`.
-use crate::branches::{often, BRANCHES, LIMITS};
+//! `entries.rs`, `recorded_inserts.rs`, `recorded_safe.rs` and `recorded_refusals.rs`.
+use crate::branches::{long, often, BRANCHES, LIMITS};
 use crate::entries::{LOOKUP, PATCH};
 use crate::layouts::Gen;
 use crate::plan::Layout;
 use crate::recorded::{Case, Held};
 use crate::recorded_inserts::INSERTS;
+use crate::recorded_safe::{REFUSED_FOR_SAFE, SAFE_NODES};
 use crate::tape::{Kind, Tape, LONGEST};
-use crate::{recorded_folds, recorded_inserts, recorded_refusals};
+use crate::{recorded_folds, recorded_inserts, recorded_refusals, recorded_safe};
 use std::collections::BTreeMap;
 
 /// Plans of seeds from 1 on are tried.
@@ -68,7 +69,7 @@ impl Recorder {
     /// Whether a case reaches something that was not reached often enough. One that has what takes much room must be wanted for that.
     fn wanted(&self, c: &Case) -> bool {
         let wanted = |name: &&str| self.reached.get(name).copied().unwrap_or(0) < often(name, TIMES);
-        let mut long = c.reached.iter().filter(|name| often(name, TIMES) < TIMES).peekable();
+        let mut long = c.reached.iter().filter(|name| long(name)).peekable();
         c.reached.iter().any(wanted) && (long.peek().is_none() || long.any(wanted))
     }
 
@@ -107,6 +108,7 @@ impl Recorder {
         (0..6).for_each(|_| recorded_refusals::some(&mut c, &mut g, &h));
         self.take_refused(c);
         self.inserts(&mut g, &h);
+        self.safes(&mut g, &h);
     }
 
     /// An insert on a record of its own, and one on a plan that was run, with the check after it.
@@ -123,6 +125,18 @@ impl Recorder {
         }
     }
 
+    /// Calls that are refused for a safe above 1, while there are not enough of them.
+    fn safes(&mut self, g: &mut Gen, h: &Held) {
+        if !self.wanted(&Case { records: Vec::new(), reached: REFUSED_FOR_SAFE.to_vec() }) {
+            return;
+        }
+        for c in recorded_safe::refused(g, h) {
+            if self.wanted(&c) {
+                self.take(&c);
+            }
+        }
+    }
+
     /// A plan and its trace; the builder calls only where there are not enough of them yet.
     fn built(&self, g: &mut Gen, like: Option<&Layout>) -> Option<(Case, Held)> {
         let layout = g.layout(like);
@@ -133,6 +147,7 @@ impl Recorder {
         let h = c.build(g, layout);
         if self.builds >= BUILDS {
             c.records.retain(|r| r.kind == Kind::CheckPlan);
+            c.reached.clear();
         }
         c.trace(g, &h);
         if h.rust.output_sources.len() <= SLOTS {
@@ -151,6 +166,7 @@ impl Recorder {
             let mut c = Case::default();
             let mut h = c.build(&mut g, layout);
             c.records.retain(|r| r.kind == Kind::CheckPlan);
+            c.reached.clear();
             c.trace(&mut g, &h);
             c.all_lists(&h, 2);
             let (setting, input) = (g.setting(&h.layout), g.input_block(&h.layout));
@@ -166,7 +182,7 @@ impl Recorder {
 
     /// What was not reached.
     fn missing(&self) -> Vec<String> {
-        let names = BRANCHES.iter().chain(LIMITS).chain(INSERTS).chain(&PATCH).chain(&LOOKUP);
+        let names = BRANCHES.iter().chain(LIMITS).chain(INSERTS).chain(SAFE_NODES).chain(REFUSED_FOR_SAFE).chain(&PATCH).chain(&LOOKUP);
         let branches = names.filter(|name| !self.reached.contains_key(*name)).map(|name| name.to_string());
         let all = recorded_refusals::REFUSALS.iter().flat_map(|(kind, numbers)| numbers.iter().map(move |n| (*kind, *n)));
         let refusals = all.filter(|r| !self.refused.contains_key(r)).map(|(kind, n)| format!("{kind:?} refused {n}"));
@@ -196,11 +212,11 @@ fn text(r: &Recorder) -> String {
     format!(
         "Answers of the Rust mixer (commit f575066b19) to calls of the plan engine, inserts and folds, for `replay`.
 Made by `oracle record FILE` (oracle/README.md): the same bytes each time.
-Plans are those of {} of the seeds 1 to {SEEDS}: where a branch is reached that fewer than {TIMES} cases had, and the first at every limit.
+Plans are those of {} of the seeds 1 to {SEEDS}: where a branch is reached that fewer than {TIMES} cases had, and one at every limit.
 Samples, nodes, buffers, lists, balances, roundings and folds by its laws are the Rust's. What it lacks is the oracle's: refusals, the check and
-the clean answer by document 01, lookups by request C-11, tests of inserts by C-12, other folds by a table.
+the clean answer by document 01, lookups by C-11, tests of inserts by C-12, safe by C-13, other folds by a table.
 
-After this text of 1,024 bytes: u32 words, the lowest byte first. Words 0 to 4: 5245504C (hex), version 3, words in all, records,
+After this text of 1,024 bytes: u32 words, the lowest byte first. Words 0 to 4: 5245504C (hex), version 4, words in all, records,
 where the records start; before that the areas. A record: kind, length in words, refusal's number and place (0: accepted),
 how many areas, start and length of each in words, then its numbers (crates/replay/src has each kind's).
 Floats are their bits, all NaN 7FC00000; f64 and counts are two words, the lower one first.

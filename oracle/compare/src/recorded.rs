@@ -6,8 +6,9 @@ use crate::layouts::Gen;
 use crate::mixer::{InsertPoint, Plan, Status};
 use crate::ops::{Input, NodePoke, Setting};
 use crate::paper;
-use crate::plan::{Areas, Call, Layout, NodeCall, Step, FLOATS, WORDS};
+use crate::plan::{Areas, Call, Layout, NodeCall, Step, SAFE, WORDS};
 use crate::recorded_inserts;
+use crate::recorded_safe;
 use crate::rust::{self, PlanBuilder};
 use crate::tape::{bits, plan, size, Kind, Record};
 use crate::traced::PLACES;
@@ -102,8 +103,10 @@ impl Case {
         let number = b.node(n.id, &n.values, n.ramp);
         rust::nodes_to(peek::nodes(b), &mut a.floats, &mut a.words);
         a.plan.nodes = peek::nodes(b).len();
+        a.words[WORDS * number as usize + SAFE] = n.safe;
+        self.reached.extend((n.safe > 0).then_some(recorded_safe::BUILT));
         let areas = vec![before, plan(&a.plan), bits(&n.values), floats, words, bits(&a.floats), a.words.clone()];
-        self.accepted(Kind::Node, areas, vec![n.id, n.ramp, number]);
+        self.accepted(Kind::Node, areas, vec![n.id, n.ramp, n.safe, number]);
     }
 
     fn step(&mut self, b: &mut PlanBuilder, a: &mut Areas, s: &Step) {
@@ -140,6 +143,7 @@ impl Case {
         if known {
             self.reached.extend(branches::setting(&h.layout, &h.areas, s));
             self.reached.extend(recorded_inserts::setting(&h.layout, s.id));
+            self.reached.extend(recorded_safe::setting(&h.areas, s.id));
         }
         rust::nodes_to(&h.rust.nodes, &mut h.areas.floats, &mut h.areas.words);
         let status = if known { Status::default() } else { Status { number: 9, place: 0 } };
@@ -154,6 +158,7 @@ impl Case {
         let count = output.len();
         self.reached.extend(branches::run(&h.layout, &before, input, &output, more));
         self.reached.extend(recorded_inserts::run(&h.layout, &before, input));
+        self.reached.extend(recorded_safe::run(&h.layout, &before));
         output.resize(count + more, 7.5);
         let a = &mut h.areas;
         rust::nodes_to(&h.rust.nodes, &mut a.floats, &mut a.words);
@@ -221,10 +226,13 @@ impl Case {
 
     /// This plan takes over nodes of an old one.
     pub fn adopt(&mut self, new: &mut Held, old: &mut Held, pairs: &[u32], ramp: u32) {
+        let list = paper::not_skipped(&new.areas, pairs);
+        self.reached.extend(branches::adoption(&new.rust, &old.rust, &list, ramp));
+        self.reached.extend(recorded_safe::adoption(&new.areas, &old.areas, pairs));
+        self.reached.extend(recorded_safe::shown(new, old, pairs, ramp));
         let (n, o) = (&mut new.areas, &old.areas);
         let mut areas = vec![bits(&n.floats), n.words.clone(), bits(&o.floats), o.words.clone(), pairs.to_vec()];
-        self.reached.extend(branches::adoption(&new.rust, &old.rust, pairs, ramp));
-        rust::adopt(&mut new.rust, &mut old.rust, pairs, ramp);
+        rust::adopt(&mut new.rust, &mut old.rust, &list, ramp);
         rust::nodes_to(&new.rust.nodes, &mut n.floats, &mut n.words);
         areas.extend([bits(&n.floats), n.words.clone()]);
         self.accepted(Kind::Adopt, areas, adoption_numbers(&n.plan, &o.plan, ramp));
@@ -247,8 +255,7 @@ impl Case {
 
     /// A node whose areas somebody else wrote.
     pub fn poke(&mut self, h: &mut Held, n: &NodePoke) {
-        h.areas.floats[FLOATS * n.node..][..FLOATS].copy_from_slice(&n.floats);
-        h.areas.words[WORDS * n.node + 1..][..2].copy_from_slice(&[n.len, n.left]);
+        n.put(&mut h.areas);
         rust::nodes_from(&mut h.rust, &h.areas.floats, &h.areas.words);
     }
 }

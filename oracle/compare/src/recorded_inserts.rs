@@ -5,7 +5,7 @@ use crate::layouts::Gen;
 use crate::mixer::{InsertPoint, Span};
 use crate::ops::Input;
 use crate::paper::{self, insert_growth, Lent, MAX_RAMP};
-use crate::plan::{Areas, Layout, WORDS};
+use crate::plan::{Areas, Layout, ID, LEFT};
 use crate::points::lend;
 use crate::recorded::{lent, Case, Held};
 use crate::shapes::returned;
@@ -100,7 +100,7 @@ pub fn alone(c: &mut Case, g: &mut Gen) {
 /// What an insert that is taken reaches.
 fn taken(a: &Areas, i: &InsertPoint) -> Vec<&'static str> {
     let (n, growth, len) = (channels(i.format), insert_growth(i), i.src.len as usize);
-    let old = |id: &u32| (0..a.plan.nodes).any(|k| a.words[WORDS * k] == *id);
+    let old = |id: &u32| (0..a.plan.nodes).any(|k| a.word(k, ID) == *id);
     let when = [
         (true, FORMATS[i.format as usize]),
         (!i.returns, "insert without a return"),
@@ -158,7 +158,7 @@ pub fn checked(c: &mut Case, g: &mut Gen, h: &Held) {
 /// What a run of a layout with inserts reaches, from the areas before it.
 pub fn run(l: &Layout, a: &Areas, input: &Input) -> Vec<&'static str> {
     let mine: Vec<u32> = l.inserts().flat_map(ids).collect();
-    let ramping = a.words.chunks_exact(WORDS).take(a.plan.nodes).any(|w| mine.contains(&w[0]) && w[2] > 0);
+    let ramping = (0..a.plan.nodes).any(|k| mine.contains(&a.word(k, ID)) && a.word(k, LEFT) > 0);
     let (back, returns) = (returned(l, input), |i: &&InsertPoint| i.returns);
     let when = [
         (!mine.is_empty() && !ramping, "run, an insert at rest"),

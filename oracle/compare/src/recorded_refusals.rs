@@ -3,9 +3,9 @@ use crate::branches::{FIVE_WORDS, MANY_ENTRIES};
 use crate::layouts::Gen;
 use crate::misbuilt;
 use crate::mixer::Status;
-use crate::ops::Input;
+use crate::ops::{Input, Setting};
 use crate::paper::{self, Lent, MAX_ENTRIES, MAX_RAMP};
-use crate::plan::{Areas, FLOATS, WORDS};
+use crate::plan::{Areas, NodeCall, FLOATS, ID, WORDS};
 use crate::recorded::{adoption_numbers, lent, run_areas, traced, Case, Held};
 use crate::refused::{off, off32, spoil, spoil_directory, spoil_node};
 use crate::rng::Rng;
@@ -17,7 +17,7 @@ pub const REFUSALS: &[(Kind, &[u32])] = &[
     (Kind::Buffers, &[5, 2]),
     (Kind::Buffer, &[2]),
     (Kind::Coefficients, &[5, 2]),
-    (Kind::Node, &[5, 2, 7, 8, 10]),
+    (Kind::Node, &[5, 2, 7, 8, 10, 14]),
     (Kind::Step, &[5, 2, 3, 7]),
     (Kind::Insert, &[16, 18, 4, 5, 2, 8, 10]),
     (Kind::Finish, &[1, 5, 2]),
@@ -70,7 +70,7 @@ fn run(c: &mut Case, g: &mut Gen, h: &Held) {
     refused_run(c, &a, &input, &output, status);
 }
 
-fn refused_run(c: &mut Case, a: &Areas, input: &Input, output: &[f32], status: Status) {
+pub fn refused_run(c: &mut Case, a: &Areas, input: &Input, output: &[f32], status: Status) {
     let mut areas = run_areas(a, input, output);
     areas.extend([bits(&a.floats), a.words.clone(), bits(&a.buffers), bits(output)]);
     c.push(Kind::Process, status, areas, size(0).to_vec());
@@ -102,6 +102,10 @@ fn set(c: &mut Case, g: &mut Gen, h: &Held) {
         _ => spoil(&mut g.r, &mut a),
     }
     let Err(status) = paper::set(&a, s.id, s.ramp) else { return };
+    refused_set(c, &a, &s, status);
+}
+
+pub fn refused_set(c: &mut Case, a: &Areas, s: &Setting, status: Status) {
     let (floats, words) = (bits(&a.floats), a.words.clone());
     let numbers = [&size(a.plan.nodes)[..], &[s.id, s.ramp]].concat();
     c.push(Kind::SetParam, status, vec![bits(&s.values), floats.clone(), words.clone(), floats, words], numbers);
@@ -121,6 +125,10 @@ fn adopt(c: &mut Case, g: &mut Gen, h: &Held) {
         _ => spoil(&mut g.r, &mut old),
     }
     let Err(status) = paper::adopt(&new, &old, pairs.len(), ramp) else { return };
+    refused_adoption(c, &new, &old, pairs, ramp, status);
+}
+
+pub fn refused_adoption(c: &mut Case, new: &Areas, old: &Areas, pairs: Vec<u32>, ramp: u32, status: Status) {
     let (floats, words) = (bits(&new.floats), new.words.clone());
     let areas = vec![floats.clone(), words.clone(), bits(&old.floats), old.words.clone(), pairs, floats, words];
     c.push(Kind::Adopt, status, areas, adoption_numbers(&new.plan, &old.plan, ramp));
@@ -187,19 +195,24 @@ fn coefficients(c: &mut Case, g: &mut Gen, a: &Areas) {
 }
 
 fn node(c: &mut Case, g: &mut Gen, mut a: Areas) {
-    if g.r.percent(70) && a.plan.nodes < 64 {
+    if g.r.percent(70) && a.plan.nodes < 8 {
         a.floats.resize(FLOATS * (a.plan.nodes + 1), 1.0);
         a.words.resize(WORDS * (a.plan.nodes + 1), 1);
     }
-    let used = if a.plan.nodes > 0 { a.words.first().copied() } else { None };
+    let used = if a.plan.nodes > 0 { a.words.get(ID).copied() } else { None };
     let any = g.r.next() as u32;
     let id = g.r.pick(&[used.unwrap_or(0), any]);
     let values = vec![1.5; g.r.pick(&[0, 1, 24, 25])];
-    let ramp = g.r.pick(&[0, MAX_RAMP, MAX_RAMP + 1, u32::MAX]);
-    let Err(status) = misbuilt::node(&a, id, values.len(), ramp) else { return };
-    let (p, floats) = (plan(&a.plan), bits(&a.floats));
-    let areas = vec![p.clone(), p, bits(&values), floats.clone(), a.words.clone(), floats, a.words];
-    c.push(Kind::Node, status, areas, vec![id, ramp, 0]);
+    let (ramp, safe) = (g.r.pick(&[0, MAX_RAMP, MAX_RAMP + 1, u32::MAX]), misbuilt::any_safe(&mut g.r));
+    if let Err(status) = misbuilt::node(&a, id, values.len(), ramp, safe) {
+        refused_node(c, &a, NodeCall { id, values, ramp, safe }, status);
+    }
+}
+
+pub fn refused_node(c: &mut Case, a: &Areas, n: NodeCall, status: Status) {
+    let (p, floats, words) = (plan(&a.plan), bits(&a.floats), a.words.clone());
+    let areas = vec![p.clone(), p, bits(&n.values), floats.clone(), words.clone(), floats, words];
+    c.push(Kind::Node, status, areas, vec![n.id, n.ramp, n.safe, 0]);
 }
 
 fn step(c: &mut Case, g: &mut Gen, a: &Areas) {

@@ -4,8 +4,8 @@ use crate::judge::{same, untouched, words, Fault, Found, Judge};
 use crate::layouts::Gen;
 use crate::mixer::{self, CleanReply, CountReply, Status};
 use crate::ops::Input;
-use crate::paper::{self, Lent, MAX_ENTRIES, MAX_RAMP};
-use crate::plan::{Areas, FLOATS, WORDS};
+use crate::paper::{self, Answer, Lent, MAX_ENTRIES, MAX_RAMP, MAX_SAFE};
+use crate::plan::{Areas, Layout, FLOATS, ID, LEFT, LEN, SAFE, WORDS};
 use crate::rng::Rng;
 use crate::traced;
 use crate::twin::Twin;
@@ -54,18 +54,39 @@ pub fn spoil(r: &mut Rng, a: &mut Areas) {
     }
 }
 
-/// An id that another node has, or a len or left above its limit.
+/// An id that another node has, or a len, left or safe above its limit.
 pub fn spoil_node(r: &mut Rng, a: &mut Areas) {
     let nodes = a.plan.nodes.min(a.words.len() / WORDS);
     if nodes == 0 {
         return;
     }
     let (at, other) = (WORDS * r.below(nodes), WORDS * r.below(nodes));
-    match r.below(3) {
-        0 => a.words[at] = a.words[other],
-        1 => a.words[at + 1] = r.pick(&[25, 26, u32::MAX]),
-        _ => a.words[at + 2] = r.pick(&[MAX_RAMP + 1, u32::MAX]),
+    match r.below(4) {
+        0 => a.words[at + ID] = a.words[other + ID],
+        1 => a.words[at + LEN] = r.pick(&[25, 26, u32::MAX]),
+        2 => a.words[at + LEFT] = r.pick(&[MAX_RAMP + 1, u32::MAX]),
+        _ => a.words[at + SAFE] = r.pick(&[2, u32::MAX]),
     }
+}
+
+/// Areas none of whose nodes is safe.
+pub fn without_safe(a: &Areas) -> Areas {
+    let mut a = a.clone();
+    a.words.iter_mut().skip(SAFE).step_by(WORDS).for_each(|safe| *safe = 0);
+    a
+}
+
+/// A refusal; planted, the answer to the same call `without` some safe words, where these alone are what is refused.
+pub fn by_safe<T>(j: &mut Judge, unread: Fault, right: Status, without: impl FnOnce() -> Answer<T>) -> Status {
+    let other = if right.number == 14 { without().err().unwrap_or_default() } else { right };
+    if other == right {
+        return right;
+    }
+    j.counts.safes.refused(unread);
+    if j.plants(unread) {
+        return other;
+    }
+    right
 }
 
 fn spoil_word(r: &mut Rng, a: &mut Areas) {
@@ -144,18 +165,30 @@ pub fn spoil_directory(g: &mut Gen, input: &mut Input) {
     }
 }
 
+/// The fault of a run that is not refused for a safe above 1.
+fn unread(l: &Layout, a: &Areas) -> Fault {
+    let used = |k: usize| l.uses(k) && a.words.get(WORDS * k + SAFE).is_some_and(|safe| *safe > MAX_SAFE);
+    if (0..l.nodes.len()).any(used) {
+        return Fault::UnreadRun;
+    }
+    Fault::UnreadUnused
+}
+
 fn run(j: &mut Judge, g: &mut Gen, twin: &Twin) -> Found {
     let mut a = twin.port.clone();
     let mut input = g.input_block(&twin.layout);
     let mut output = vec![7.5; twin.layout.output_channels() * twin.layout.block];
     for _ in 0..g.r.pick(&[1, 1, 2]) {
-        match g.r.below(3) {
+        match g.r.below(4) {
             0 => spoil(&mut g.r, &mut a),
-            1 => spoil_directory(g, &mut input),
+            1 => spoil_node(&mut g.r, &mut a),
+            2 => spoil_directory(g, &mut input),
             _ => drop(output.pop()),
         }
     }
-    let Err(refusal) = paper::run(&a, &input.directory, input.samples.len(), output.len()) else { return Ok(()) };
+    let answer = |a: &Areas| paper::run(a, &input.directory, input.samples.len(), output.len());
+    let Err(mut refusal) = answer(&a) else { return Ok(()) };
+    refusal = by_safe(j, unread(&twin.layout, &a), refusal, || answer(&without_safe(&a)));
     let before = a.clone();
     let reply = process(&mut a, &input, &mut output);
     j.refusal("process", refusal, reply.status)?;
@@ -174,7 +207,8 @@ fn set(j: &mut Judge, g: &mut Gen, twin: &Twin) -> Found {
         1 => spoil_node(&mut g.r, &mut a),
         _ => spoil(&mut g.r, &mut a),
     }
-    let Err(refusal) = paper::set(&a, s.id, s.ramp) else { return Ok(()) };
+    let Err(mut refusal) = paper::set(&a, s.id, s.ramp) else { return Ok(()) };
+    refusal = by_safe(j, Fault::UnreadSet, refusal, || paper::set(&without_safe(&a), s.id, s.ramp));
     let before = a.clone();
     let reply = mixer::set_param(a.plan, s.id, &s.values, s.ramp, &mut a.floats, &mut a.words);
     j.refusal("set_param", refusal, reply)?;
@@ -196,7 +230,9 @@ fn adopt(j: &mut Judge, g: &mut Gen, twin: &Twin) -> Found {
             _ => spoil(&mut g.r, &mut old),
         }
     }
-    let Err(refusal) = paper::adopt(&new, &old, pairs.len(), ramp) else { return Ok(()) };
+    let Err(mut refusal) = paper::adopt(&new, &old, pairs.len(), ramp) else { return Ok(()) };
+    refusal = by_safe(j, Fault::UnreadNew, refusal, || paper::adopt(&without_safe(&new), &old, pairs.len(), ramp));
+    refusal = by_safe(j, Fault::UnreadOld, refusal, || paper::adopt(&new, &without_safe(&old), pairs.len(), ramp));
     let (before, old_before) = (new.clone(), old.clone());
     let reply = mixer::adopt(new.plan, &mut new.floats, &mut new.words, old.plan, &old.floats, &old.words, &pairs, ramp);
     j.refusal("adopt", refusal, reply)?;

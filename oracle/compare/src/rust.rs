@@ -1,6 +1,6 @@
 //! The reference's side: its own builder, plan and calls.
 use crate::mixer;
-use crate::plan::{Areas, Step, FLOATS, VALUES, WORDS};
+use crate::plan::{Areas, Step, FLOATS, ID, LEFT, LEN, VALUES, WORDS};
 use reference::engine::plan::peek;
 use reference::engine::plan::{InputSource, OutputSink, Span};
 pub use reference::engine::plan::{Plan, PlanBuilder};
@@ -75,26 +75,26 @@ pub fn len_of(n: &reference::engine::plan::Node) -> u32 {
     peek::node(n).len
 }
 
-/// Writes the nodes to the front of node areas, as document 01 lays them out.
+/// Writes the nodes to the front of node areas, as document 01 lays them out. The reference has no safe: these words stay as they are.
 pub fn nodes_to(nodes: &[reference::engine::plan::Node], floats: &mut [f32], words: &mut [u32]) {
     for ((n, f), w) in nodes.iter().zip(floats.chunks_exact_mut(FLOATS)).zip(words.chunks_exact_mut(WORDS)) {
         node_to(&peek::node(n), f, w);
     }
 }
 
-/// One node, to its own floats and words.
+/// One node, to its own floats and words, of which it leaves safe.
 pub fn node_to(r: &peek::Raw, floats: &mut [f32], words: &mut [u32]) {
     floats[..VALUES].copy_from_slice(&r.cur);
     floats[VALUES..2 * VALUES].copy_from_slice(&r.target);
     floats[2 * VALUES..].copy_from_slice(&r.step);
-    words.copy_from_slice(&[r.id, r.len, r.left]);
+    (words[ID], words[LEN], words[LEFT]) = (r.id, r.len, r.left);
 }
 
 /// Takes the nodes from node areas.
 pub fn nodes_from(p: &mut Plan, floats: &[f32], words: &[u32]) {
     for ((n, f), w) in p.nodes.iter_mut().zip(floats.chunks_exact(FLOATS)).zip(words.chunks_exact(WORDS)) {
         let row = |i: usize| -> [f32; VALUES] { f[i * VALUES..][..VALUES].try_into().unwrap() };
-        peek::put_node(n, &peek::Raw { id: w[0], len: w[1], left: w[2], cur: row(0), target: row(1), step: row(2) });
+        peek::put_node(n, &peek::Raw { id: w[ID], len: w[LEN], left: w[LEFT], cur: row(0), target: row(1), step: row(2) });
     }
 }
 
@@ -119,7 +119,7 @@ pub fn wired(a: &Areas, steps: &[Step], block: usize) -> PlanBuilder {
     peek::set_indices(&mut b, &a.indices[..a.plan.indices]);
     b.coefficients(&a.coefficients[..a.plan.coefficients.min(a.coefficients.len())]);
     for w in a.words.chunks_exact(WORDS).take(a.plan.nodes) {
-        b.node(w[0], &[], 0);
+        b.node(w[ID], &[], 0);
     }
     steps.iter().for_each(|s| b.step(step(s)));
     b

@@ -1,10 +1,12 @@
 //! Which shapes the plans of a run had, and what its pairs had, so that a run shows what it has tried.
+use crate::adoptions::named;
 use crate::entries::heard;
 use crate::folds::channels;
 use crate::inserts::ids;
+use crate::judge::Fault;
 use crate::mixer::{InsertPoint, Plan, Span, Status};
 use crate::ops::Input;
-use crate::plan::{Areas, Layout, Step, VALUES, WORDS};
+use crate::plan::{Areas, Layout, Step, ID, LEFT, VALUES};
 
 macro_rules! counted {
     ($type:ident { $($name:ident: $text:literal,)* }) => {
@@ -88,6 +90,33 @@ counted! {
 }
 
 counted! {
+    Safes {
+        nodes: "built",
+        safe: "safe",
+        settings: "settings of safe ones",
+        runs: "runs with safe ones",
+        ramping: "with a safe one ramping",
+        pairs: "pairs of adoptions",
+        skipped: "skipped",
+        kept: "that would have taken the node over",
+        out_of_range: "skipped with an old node out of range",
+        other_len: "with an old node of another len",
+        twice: "for a safe node again",
+        old: "taken though the old node is safe",
+        lists: "adoptions that skip a pair and take another",
+        refused_14: "node calls refused with 14",
+        refused_10: "with 10 where safe is above 1 too",
+        set_14: "settings refused for a safe alone",
+        run_14: "runs",
+        unused_14: "runs for that of a node that no step uses",
+        new_14: "adoptions for that of a new node",
+        old_14: "of an old one",
+        damaged_14: "damaged plans that are not run for a safe",
+        damaged_run: "that are run with another safe",
+    }
+}
+
+counted! {
     Pairs {
         pairs: "all",
         other_blocks: "two different blocks",
@@ -96,6 +125,7 @@ counted! {
         ramps: "ramps",
         settings: "settings behind a run",
         with_refused: "refused calls",
+        safe: "a safe node",
         inserts: "an insert",
         returns: "an insert with a return",
         mixed: "a channel from a Gain, Matrix or Send",
@@ -112,6 +142,7 @@ counted! {
         refused_built: "refused builder calls in all",
         refused_set: "refused settings in all",
         refused_run: "refused runs in all",
+        refused_safe: "refused node calls with a safe above 1",
     }
 }
 
@@ -119,6 +150,56 @@ impl Pairs {
     pub fn refused(&self) -> u64 {
         self.refused_built + self.refused_set + self.refused_run
     }
+}
+
+impl Safes {
+    pub fn built(&mut self, safe: u32) {
+        self.nodes += 1;
+        self.safe += (safe > 0) as u64;
+    }
+
+    /// A setting, by the nodes before it or after it.
+    pub fn setting(&mut self, a: &Areas, id: u32) {
+        self.settings += safe_nodes(a).any(|i| a.word(i, ID) == id) as u64;
+    }
+
+    /// A run, from the areas before it.
+    pub fn run(&mut self, a: &Areas) {
+        self.runs += (safe_nodes(a).count() > 0) as u64;
+        self.ramping += safe_nodes(a).any(|i| a.word(i, LEFT) > 0) as u64;
+    }
+
+    /// An adoption that is accepted, from the areas before it.
+    pub fn adoption(&mut self, new: &Areas, old: &Areas, pairs: &[u32]) {
+        let named = named(new, old, pairs);
+        self.pairs += named.len() as u64;
+        for p in named.iter().filter(|p| p.safe) {
+            self.skipped += 1;
+            self.kept += p.alike as u64;
+            self.out_of_range += !p.there as u64;
+            self.other_len += (p.there && !p.alike) as u64;
+            self.twice += p.again as u64;
+        }
+        let taken = || named.iter().filter(|p| p.alike && !p.safe);
+        self.old += taken().filter(|p| p.old_safe).count() as u64;
+        self.lists += (taken().count() > 0 && named.iter().any(|p| p.safe)) as u64;
+    }
+
+    /// A call that is refused for a safe alone.
+    pub fn refused(&mut self, unread: Fault) {
+        match unread {
+            Fault::UnreadSet => self.set_14 += 1,
+            Fault::UnreadRun => self.run_14 += 1,
+            Fault::UnreadUnused => self.unused_14 += 1,
+            Fault::UnreadNew => self.new_14 += 1,
+            Fault::UnreadOld => self.old_14 += 1,
+            _ => self.damaged_14 += 1,
+        }
+    }
+}
+
+fn safe_nodes(a: &Areas) -> impl Iterator<Item = usize> + '_ {
+    (0..a.plan.nodes).filter(|i| a.is_safe(*i as u32))
 }
 
 impl Inserts {
@@ -177,9 +258,9 @@ impl Inserts {
     /// A run, from the areas before it.
     pub fn run(&mut self, l: &Layout, a: &Areas, input: &Input) {
         let mine: Vec<u32> = l.inserts().flat_map(ids).collect();
-        let ramping = |w: &[u32]| mine.contains(&w[0]) && w[2] > 0;
+        let ramping = |k: usize| mine.contains(&a.word(k, ID)) && a.word(k, LEFT) > 0;
         self.runs += !mine.is_empty() as u64;
-        self.ramping += a.words.chunks_exact(WORDS).take(a.plan.nodes).any(ramping) as u64;
+        self.ramping += (0..a.plan.nodes).any(ramping) as u64;
         self.not_finite += returned(l, input).iter().any(|x| !x.is_finite()) as u64;
     }
 }

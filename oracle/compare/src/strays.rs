@@ -5,8 +5,8 @@ use crate::judge::{same, Found, Judge};
 use crate::layouts::Gen;
 use crate::misbuilt;
 use crate::mixer::{self, Status};
-use crate::paper::{self, MAX_RAMP, MAX_STEPS};
-use crate::plan::{Areas, Layout, WORDS};
+use crate::paper::{self, MAX_RAMP, MAX_SAFE, MAX_STEPS};
+use crate::plan::{Areas, Layout, ID};
 use crate::refused::{self, off, off32};
 use crate::signals::Channel;
 
@@ -41,13 +41,15 @@ fn coefficients(j: &mut Judge, g: &mut Gen, a: &mut Areas) -> Found {
 }
 
 fn node(j: &mut Judge, g: &mut Gen, a: &mut Areas) -> Found {
-    let ids: Vec<u32> = a.words[..WORDS * a.plan.nodes].chunks(WORDS).map(|w| w[0]).collect();
+    let ids: Vec<u32> = (0..a.plan.nodes).map(|k| a.word(k, ID)).collect();
     let id = if ids.is_empty() || g.r.percent(40) { g.id(&ids) } else { g.r.pick(&ids) };
     let n = g.r.pick(&[0, 1, 24, 25, 30]);
     let values = g.wild.gains(&mut g.r, n);
     let ramp = g.r.pick(&[0, 7, MAX_RAMP, MAX_RAMP + 1, u32::MAX]);
-    let Err(status) = misbuilt::node(a, id, n, ramp) else { return Ok(()) };
-    let reply = mixer::node(a.plan, id, &values, ramp, &mut a.floats, &mut a.words);
+    let safe = misbuilt::any_safe(&mut g.r);
+    let Err(status) = misbuilt::node(a, id, n, ramp, safe) else { return Ok(()) };
+    j.counts.pairs.refused_safe += (safe > MAX_SAFE) as u64;
+    let reply = mixer::node(a.plan, id, &values, ramp, safe, &mut a.floats, &mut a.words);
     record(j, "node", status, a, reply.status, reply.plan)
 }
 
@@ -65,7 +67,7 @@ fn step(j: &mut Judge, g: &mut Gen, a: &mut Areas) -> Found {
 
 /// An insert with a format, a return, a source, an id or a ramp that is refused, or with areas that are too short.
 fn insert(j: &mut Judge, g: &mut Gen, a: &mut Areas) -> Found {
-    let ids: Vec<u32> = a.words[..WORDS * a.plan.nodes].chunks(WORDS).map(|w| w[0]).collect();
+    let ids: Vec<u32> = (0..a.plan.nodes).map(|k| a.word(k, ID)).collect();
     let mut i = g.point(a.plan.indices, &ids);
     g.odd(a, &mut i);
     let Err(status) = paper::insert(a, &i, None) else { return Ok(()) };

@@ -4,7 +4,7 @@ use crate::judge::{floats, same, untouched, words, Fault, Found, Judge};
 use crate::layouts::Gen;
 use crate::mixer::{self, CountReply, Status};
 use crate::ops::{Input, NodePoke, Setting};
-use crate::plan::{Areas, Layout, FLOATS, VALUES, WORDS};
+use crate::plan::{Areas, Layout, FLOATS, ID, LEFT, LEN, SAFE, VALUES, WORDS};
 use crate::{paper, rust, traced};
 use reference::engine::plan::peek;
 
@@ -31,7 +31,7 @@ fn flip(x: &mut f32) {
 }
 
 impl Twin {
-    fn follow_nodes(&mut self, j: &mut Judge) {
+    pub fn follow_nodes(&mut self, j: &mut Judge) {
         rust::nodes_to(&self.rust.nodes, &mut self.want.floats, &mut self.want.words);
         self.plant_in_node(j);
     }
@@ -56,15 +56,23 @@ impl Twin {
                 flip(x);
             }
         }
-        for (fault, word) in [(Fault::Id, 0), (Fault::Len, 1), (Fault::Left, 2)] {
+        for (fault, place) in [(Fault::Id, ID), (Fault::Len, LEN), (Fault::Left, LEFT), (Fault::Safe, SAFE)] {
             if j.plants(fault) {
-                self.want.words[WORDS * last + word] ^= 1;
+                self.want.words[WORDS * last + place] ^= 1;
             }
         }
         if let Some(word) = self.want.words.get_mut(WORDS * (last + 1)) {
             if j.plants(Fault::BehindCounts) {
                 *word ^= 1;
             }
+        }
+    }
+
+    /// A safe node that is safe no longer.
+    fn plant_in_safe(&mut self, j: &mut Judge, fault: Fault) {
+        let safe = (0..self.layout.nodes.len()).rfind(|i| self.want.is_safe(*i as u32));
+        if let Some(i) = safe.filter(|_| j.plants(fault)) {
+            self.want.words[WORDS * i + SAFE] = 0;
         }
     }
 
@@ -75,10 +83,12 @@ impl Twin {
         if known {
             j.counts.calls += 1;
             same("setting", &Status::default(), &reply)?;
+            j.counts.safes.setting(&self.want, s.id);
         } else {
             j.refusal("set_param", Status { number: 9, place: 0 }, reply)?;
         }
         self.follow_nodes(j);
+        self.plant_in_safe(j, Fault::SetSafe);
         areas(&self.want, &self.port)
     }
 
@@ -93,6 +103,7 @@ impl Twin {
         j.counts.shapes.samples(&expected);
         j.counts.patched.run(&self.layout.steps, input, self.layout.block);
         j.counts.inserts.run(&self.layout, &self.want, input);
+        j.counts.safes.run(&self.want);
         expected.resize(count + more, 7.5);
         let mut output = vec![7.5; expected.len()];
         let p = &mut self.port;
@@ -115,6 +126,7 @@ impl Twin {
         same("run", &CountReply { count, ..CountReply::default() }, &reply)?;
         floats("output", &expected, &output)?;
         self.follow_nodes(j);
+        self.plant_in_safe(j, Fault::RunSafe);
         self.follow_buffers(j);
         areas(&self.want, &self.port)
     }
@@ -163,11 +175,8 @@ impl Twin {
 
     /// A node whose areas somebody else wrote, on both sides.
     pub fn poke(&mut self, n: &NodePoke) {
-        let (f, w) = (FLOATS * n.node, WORDS * n.node);
-        for a in [&mut self.want, &mut self.port] {
-            a.floats[f..][..FLOATS].copy_from_slice(&n.floats);
-            a.words[w + 1..][..2].copy_from_slice(&[n.len, n.left]);
-        }
+        n.put(&mut self.want);
+        n.put(&mut self.port);
         rust::nodes_from(&mut self.rust, &self.port.floats, &self.port.words);
     }
 
@@ -175,23 +184,6 @@ impl Twin {
         self.want.buffers[at..][..values.len()].copy_from_slice(values);
         self.port.buffers[at..][..values.len()].copy_from_slice(values);
         peek::buffers_mut(&mut self.rust)[at..][..values.len()].copy_from_slice(values);
-    }
-
-    /// This plan takes over nodes of an old one.
-    pub fn adopt(&mut self, j: &mut Judge, old: &mut Twin, pairs: &[u32], ramp: u32) -> Found {
-        j.counts.calls += 1;
-        rust::adopt(&mut self.rust, &mut old.rust, pairs, ramp);
-        let (p, o) = (&mut self.port, &old.port);
-        let reply = mixer::adopt(p.plan, &mut p.floats, &mut p.words, o.plan, &o.floats, &o.words, pairs, ramp);
-        same("adoption", &Status::default(), &reply)?;
-        self.follow_nodes(j);
-        areas(&self.want, &self.port)?;
-        rust::nodes_to(&old.rust.nodes, &mut old.want.floats, &mut old.want.words);
-        let used = WORDS * old.layout.nodes.len();
-        if j.plants_if(used > 0, Fault::OldNode) {
-            old.want.words[used - 1] ^= 1;
-        }
-        areas(&old.want, &old.port).map_err(|e| format!("old plan: {e}"))
     }
 
     /// The channel lookup and the directory's own test, for a channel that a Patch may ask for.
