@@ -45,7 +45,7 @@ abbrev pub mono : (block map : ℕ) (value : Float) (ramp : ℕ) → Build
 mono block map value ramp =
     build block
     (buffers 2
-    ∷ node 7 (value ∷ []) ramp
+    ∷ node 7 (value ∷ []) ramp 0
     ∷ step (patchMap ∷ 0 ∷ 0 ∷ 0 ∷ [])
     ∷ step (map ∷ 0 ∷ 0 ∷ 1 ∷ 1 ∷ 1 ∷ [])
     ∷ step (outputMap ∷ 1 ∷ 1 ∷ 0 ∷ [])
@@ -56,7 +56,7 @@ abbrev pub stereo : (map : ℕ) (values : List Float) (channels : ℕ) → Build
 stereo map values channels =
     build 1
     (buffers 4
-    ∷ node 7 values 0
+    ∷ node 7 values 0 0
     ∷ step (patchMap ∷ 0 ∷ 0 ∷ 0 ∷ [])
     ∷ step (patchMap ∷ 1 ∷ 0 ∷ 1 ∷ [])
     ∷ step (map ∷ 0 ∷ 0 ∷ 2 ∷ 2 ∷ channels ∷ [])
@@ -68,7 +68,7 @@ abbrev pub sending : (input : ℕ) (weight target : Float) (ramp slot : ℕ) →
 sending input weight target ramp slot =
     build 1
     (buffers 2
-    ∷ node 7 (target ∷ []) ramp
+    ∷ node 7 (target ∷ []) ramp 0
     ∷ coefficients (weight ∷ [])
     ∷ step (patchMap ∷ input ∷ 0 ∷ 0 ∷ [])
     ∷ step (clearMap ∷ 1 ∷ 1 ∷ [])
@@ -120,4 +120,4 @@ listOf b slot area = sourcesArea (fixed b .plan) slot (fixed b .indices) (changi
 abbrev pub stepChecked : List ℕ → Answer
 stepChecked words =
     checkPlan (planWith 1 14 14 0 1 1 (length words))
-    (areas (numbersFrom 0 14) [] (floatsOf (zeroNode 7 24)) (wordsOf (zeroNode 7 24)) words (replicate 14 plusZero))
+    (areas (numbersFrom 0 14) [] (floatsOf (zeroNode 7 24 0)) (wordsOf (zeroNode 7 24 0)) words (replicate 14 plusZero))

@@ -50,7 +50,7 @@ pub fn block(n: usize) {
 pub fn step(words: &[u32]) {
     let mut node_floats = [0.0f32; Node::FLOATS];
     let mut node_words = [0u32; Node::WORDS];
-    let node = Node::new(7, &[0.0; Node::MAX], 0);
+    let node = Node::new(7, &[0.0; Node::MAX], 0, 0);
     node_areas::store(node, &mut node_floats, &mut node_words, 0);
     let plan = Plan {
         block: 1,

@@ -72,7 +72,7 @@ pub fn with_node(
     node_floats: &mut [f32],
     node_words: &mut [u32],
 ) -> Plan {
-    let numbered = PlanBuilder::node(plan, ID, values, ramp, node_floats, node_words);
+    let numbered = PlanBuilder::node(plan, ID, values, ramp, 0, node_floats, node_words);
     let answer = numbered.answer;
     number_refused(answer);
     numbered.plan

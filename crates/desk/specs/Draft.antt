@@ -17,7 +17,7 @@ use Rattle.builder.specs.Calls.{newAnswer, emptyPlan}
 use Rattle.desk.specs.declared.draft.Draft.{Draft}
 
 abbrev pub maxLines : ℕ
-maxLines = 15
+maxLines = 16
 
 -- a draft with nothing in it yet
 abbrev pub begun : ℕ → Draft

@@ -18,9 +18,9 @@ ghost use Rattle.insert.specs.Insert.{insertSpan, inserted};
 ghost use Rattle.desk.specs.Draft.{begun, refused, made, answered, spanMade, nodeMade, withSpan, lineOf, withLine};
 
 // The lines that a draft has room for. A line is where a strip or a bus ends.
-pub const LINES: usize = 15;
+pub const LINES: usize = 16;
 
-// In samples. A new node fades in from 0.
+// The ramp, in samples, of a node that fades in from 0.
 pub const FADE: u32 = 4_800;
 
 pub struct Draft {
@@ -125,18 +125,26 @@ pub fn coefficients(draft: Draft, values: &[f32], area: &mut [f32]) -> Draft
     spanned(draft, PlanBuilder::coefficients(draft.plan, values, area))
 }
 
-// A node that fades in to the values: the draft's node.
-pub fn node(draft: Draft, id: u32, values: &[f32], floats: &mut [f32], words: &mut [u32]) -> Draft
-    ensures draft { λ r. ⌜ r ≡ made draft (nodeMade draft (planAfter (nodeAnswer unitLimits (draft .plan) id (length (now (values .entry))) 4800 (length (now (floats .entry))) (now (words .entry))) (draft .plan) nodeGrowth) (nodeNumber unitLimits (draft .plan) id (length (now (values .entry))) 4800 (length (now (floats .entry))) (now (words .entry)))) draft ⌝ }
-    ensures floats { λ r. ⌜ now (floats .exit) ≡ made draft (nodeFloatsArea unitLimits (draft .plan) id (now (values .entry)) 4800 (now (floats .entry)) (now (words .entry))) (now (floats .entry)) ⌝ }
-    ensures words { λ r. ⌜ now (words .exit) ≡ made draft (nodeWordsArea unitLimits (draft .plan) id (now (values .entry)) 4800 (now (floats .entry)) (now (words .entry))) (now (words .entry)) ⌝ }
+// A node that ramps to the values, at 0 at once, and is safe from adoptions or not: the draft's node.
+pub fn node(
+    draft: Draft,
+    id: u32,
+    values: &[f32],
+    ramp: u32,
+    safe: u32,
+    floats: &mut [f32],
+    words: &mut [u32],
+) -> Draft
+    ensures draft { λ r. ⌜ r ≡ made draft (nodeMade draft (planAfter (nodeAnswer unitLimits (draft .plan) id (length (now (values .entry))) ramp safe (length (now (floats .entry))) (now (words .entry))) (draft .plan) nodeGrowth) (nodeNumber unitLimits (draft .plan) id (length (now (values .entry))) ramp safe (length (now (floats .entry))) (now (words .entry)))) draft ⌝ }
+    ensures floats { λ r. ⌜ now (floats .exit) ≡ made draft (nodeFloatsArea unitLimits (draft .plan) id (now (values .entry)) ramp safe (now (floats .entry)) (now (words .entry))) (now (floats .entry)) ⌝ }
+    ensures words { λ r. ⌜ now (words .exit) ≡ made draft (nodeWordsArea unitLimits (draft .plan) id (now (values .entry)) ramp safe (now (floats .entry)) (now (words .entry))) (now (words .entry)) ⌝ }
 {
     if refused(draft) {
         return draft;
     }
     numbered(
         draft,
-        PlanBuilder::node(draft.plan, id, values, FADE, floats, words),
+        PlanBuilder::node(draft.plan, id, values, ramp, safe, floats, words),
     )
 }
 

@@ -67,7 +67,7 @@ fn send(
     let dst = draft::line_of(draft, to);
     let draft = weights(draft, line, to, coefficients);
     let w = draft.span;
-    let draft = draft::node(draft, id, &[gain], floats, words);
+    let draft = draft::node(draft, id, &[gain], draft::FADE, 0, floats, words);
     let node = draft.node;
     draft::step(
         draft,
@@ -145,11 +145,12 @@ pub fn folds(
     draft
 }
 
-// Each bus to its slot.
+// The Outputs behind the insert's.
 pub fn outputs(draft: Draft, steps: &mut [u32]) -> Draft {
     let mut draft = draft;
-    for slot in 0..layout::BUSES {
-        let src = draft::line_of(draft, layout::bus(slot));
+    for i in 1..layout::SLOTS {
+        let slot = layout::output_slot(i);
+        let src = draft::line_of(draft, layout::output_line(slot));
         draft = draft::step(
             draft,
             &[Step::OUTPUT_MAP, src.start, src.len, slot as u32],

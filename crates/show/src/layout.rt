@@ -1,14 +1,16 @@
-// The default layout, as tables: six inputs, each with a strip, nine outputs, each with a bus, and an insert on the band's strip, with an input and an
-// output of its own. A line is where a strip or a bus ends: the strips are lines 0 to 5, and the bus of slot s is line 6 + s.
+// The default layout, as tables: seven strips, each on an input, nine outputs, each with a bus, an output of the announcement's strip alone, and an
+// insert on the band's strip, with an input and an output of its own. A line is where a strip or a bus ends: the strips are lines 0 to 6, and the bus of
+// slot s is line 7 + s.
+use desk::draft::FADE;
 use format::Format;
 ghost use Prim.Native.Nat.{_<_};
 
-pub const STRIPS: usize = 6;
+pub const STRIPS: usize = 7;
 
-// The slots that have a bus. The one behind them is the insert's.
+// The slots that have a bus. Behind them are the insert's and the announcement's.
 pub const BUSES: usize = 9;
 
-pub const SLOTS: usize = 10;
+pub const SLOTS: usize = 11;
 
 pub const SENDS: usize = 23;
 
@@ -24,6 +26,8 @@ pub const FILM: usize = 3;
 pub const EFFECTS: usize = 4;
 
 pub const TALKBACK: usize = 5;
+
+pub const ANNOUNCEMENT: usize = 6;
 
 // The slots.
 pub const HALL: usize = 0;
@@ -46,17 +50,23 @@ pub const LOUNGE: usize = 8;
 
 pub const BAND_SEND: usize = 9;
 
+pub const VOICE_ALARM: usize = 10;
+
 // The input that comes back to the band's insert.
 pub const BAND_RETURN: u32 = 70;
 
 // Where a bus is made of sends, and is no fold of another slot's bus.
 pub const OF_SENDS: usize = SLOTS;
 
-// Where a slot has no bus: the insert writes it.
+// Where a slot has no bus: the insert writes it, or the announcement's strip.
 pub const OF_INSERT: usize = SLOTS + 1;
 
-// The ids of the nodes that settings change: three levels, the singer's panner, the band's width, the dry signal and the return of its insert.
+pub const OF_ANNOUNCEMENT: usize = SLOTS + 2;
+
+// The ids of the nodes that settings change: four levels, the singer's panner, the band's width, the dry signal and the return of its insert.
 pub const NARRATOR_LEVEL: u32 = 100;
+
+pub const ANNOUNCEMENT_LEVEL: u32 = 106;
 
 pub const FILM_IN_HALL: u32 = 203;
 
@@ -73,8 +83,27 @@ pub const WET: u32 = 123;
 // As many gains as the widest strip has channels.
 pub const STRIP_GAINS: usize = 6;
 
-// The id of its level, the input, the input's format, the format of the line, the level.
-pub struct Strip(pub u32, pub u32, pub u32, pub u32, pub f32);
+// What the areas of a plan have room for, each for more than the layout needs.
+pub const INDICES: usize = 64;
+
+pub const COEFFICIENTS: usize = 256;
+
+pub const NODES: usize = 48;
+
+pub const STEPS: usize = 512;
+
+pub const SAMPLES: usize = 16_384;
+
+// The id of its level, the input, the input's format, the format of the line, the level, the ramp to it, and whether no adoption may touch it.
+pub struct Strip(
+    pub u32,
+    pub u32,
+    pub u32,
+    pub u32,
+    pub f32,
+    pub u32,
+    pub u32,
+);
 
 // The format of a slot's bus, the slot whose bus it folds, the id of the fold's gains.
 pub struct Slot(pub u32, pub usize, pub u32);
@@ -82,13 +111,31 @@ pub struct Slot(pub u32, pub usize, pub u32);
 // The id of its level, the line that is sent, the slot whose bus takes it, the level.
 pub struct Send(pub u32, pub usize, pub usize, pub f32);
 
+// The emergency announcement is spoken into the talkback's microphone. Its level is there at once, at its own value, in a new layout too: it is safe.
 const STRIP_TABLE: [Strip; STRIPS] = [
-    Strip(NARRATOR_LEVEL, 3, Format::MONO, Format::MONO, 1.0),
-    Strip(101, 4, Format::MONO, Format::STEREO, 0.75),
-    Strip(102, 10, Format::STEREO, Format::STEREO, 0.5),
-    Strip(103, 20, Format::SURROUND_51, Format::SURROUND_51, 0.75),
-    Strip(104, 31, Format::STEREO, Format::STEREO, 0.5),
-    Strip(105, 60, Format::MONO, Format::MONO, 1.0),
+    Strip(NARRATOR_LEVEL, 3, Format::MONO, Format::MONO, 1.0, FADE, 0),
+    Strip(101, 4, Format::MONO, Format::STEREO, 0.75, FADE, 0),
+    Strip(102, 10, Format::STEREO, Format::STEREO, 0.5, FADE, 0),
+    Strip(
+        103,
+        20,
+        Format::SURROUND_51,
+        Format::SURROUND_51,
+        0.75,
+        FADE,
+        0,
+    ),
+    Strip(104, 31, Format::STEREO, Format::STEREO, 0.5, FADE, 0),
+    Strip(105, 60, Format::MONO, Format::MONO, 1.0, FADE, 0),
+    Strip(
+        ANNOUNCEMENT_LEVEL,
+        60,
+        Format::MONO,
+        Format::MONO,
+        1.0,
+        0,
+        1,
+    ),
 ];
 
 const SLOT_TABLE: [Slot; SLOTS] = [
@@ -102,6 +149,7 @@ const SLOT_TABLE: [Slot; SLOTS] = [
     Slot(Format::MONO, OF_SENDS, 0),
     Slot(Format::LCR, OF_SENDS, 0),
     Slot(Format::STEREO, OF_INSERT, 0),
+    Slot(Format::MONO, OF_ANNOUNCEMENT, 0),
 ];
 
 // The talkback is closed in the hall until a setting opens it. The cue sheet lists it all the same.
@@ -154,19 +202,30 @@ pub fn send_at(i: usize) -> Send {
     SEND_TABLE[row(i, SENDS)]
 }
 
-// The slot of the plan's Output i. The insert's stands before those of the buses.
+// The slot of the plan's Output i: the insert's, those of the buses, the announcement's.
 pub fn output_slot(i: usize) -> usize
-    ensures { λ r. ⌜ r < 10 ⌝ }
+    ensures { λ r. ⌜ r < 11 ⌝ }
 {
     if i == 0 {
         return BAND_SEND;
     }
-    row(i - 1, BUSES)
+    if i > BUSES {
+        return VOICE_ALARM;
+    }
+    i - 1
 }
 
 // The line of a slot's bus.
 pub fn bus(slot: usize) -> usize {
     STRIPS + row(slot, BUSES)
+}
+
+// The line that goes to a slot, which is not the insert's.
+pub fn output_line(slot: usize) -> usize {
+    if slot == VOICE_ALARM {
+        return ANNOUNCEMENT;
+    }
+    bus(slot)
 }
 
 pub fn line_format(line: usize) -> u32 {

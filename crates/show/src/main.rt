@@ -1,5 +1,5 @@
-// The default show of a theatre unit: a layout of ten outputs, four seconds of it, and its cue sheet. A call that is refused, and is not shown
-// as such, ends the program with a line that says so.
+// The default show of a theatre unit: a layout of eleven outputs, four seconds of it, a second layout that adopts its nodes, and its cue sheet. A call
+// that is refused, and is not shown as such, ends the program with a line that says so.
 mod build;
 mod buses;
 mod inserts;
@@ -8,6 +8,7 @@ mod names;
 mod overview;
 mod refused;
 mod runs;
+mod second;
 mod settings;
 mod sheet;
 mod stand_in;
@@ -19,10 +20,7 @@ use node::Node;
 use plan::Plan;
 use refusal::Answer;
 
-// The nodes that the areas have room for.
-const NODES: usize = 40;
-
-// What a plan that is laid out does: whether it is clean, its run, its cue sheet.
+// What a plan that is laid out does: whether it is clean, its run, what a second one adopts of it, its cue sheet.
 fn show(
     plan: Plan,
     indices: &[u32],
@@ -52,6 +50,9 @@ fn show(
     if let Answer::Refused(r) = answer {
         return Answer::Refused(r);
     }
+    if let Answer::Refused(r) = second::adopts(plan.nodes, &floats[..], &words[..]) {
+        return Answer::Refused(r);
+    }
     sheet::rows(&digests, plan, indices, &words[..], steps)
 }
 
@@ -65,13 +66,12 @@ fn stopped(answer: Answer) {
 }
 
 fn main() {
-    // The areas of the plan, each longer than it needs.
-    let mut indices = [0u32; 64];
-    let mut coefficients = [0.0f32; 256];
-    let mut floats = [0.0f32; NODES * Node::FLOATS];
-    let mut words = [0u32; NODES * Node::WORDS];
-    let mut steps = [0u32; 512];
-    let mut buffers = [0.0f32; 16_384];
+    let mut indices = [0u32; layout::INDICES];
+    let mut coefficients = [0.0f32; layout::COEFFICIENTS];
+    let mut floats = [0.0f32; layout::NODES * Node::FLOATS];
+    let mut words = [0u32; layout::NODES * Node::WORDS];
+    let mut steps = [0u32; layout::STEPS];
+    let mut buffers = [0.0f32; layout::SAMPLES];
     text::put(b"Sezhqolma: the default show of a theatre unit\n");
     overview::tables();
     let draft = build::laid_out(

@@ -18,7 +18,8 @@ pub fn strip(line: usize, width: usize) {
         layout::BAND => text::left(b"band", width),
         layout::FILM => text::left(b"film", width),
         layout::EFFECTS => text::left(b"effects", width),
-        _ => text::left(b"talkback", width),
+        layout::TALKBACK => text::left(b"talkback", width),
+        _ => text::left(b"announcement", width),
     }
 }
 
@@ -33,6 +34,7 @@ pub fn slot(number: usize, width: usize) {
         layout::RECORDING => text::left(b"recording", width),
         layout::CREW => text::left(b"crew", width),
         layout::LOUNGE => text::left(b"lounge", width),
-        _ => text::left(b"band send", width),
+        layout::BAND_SEND => text::left(b"band send", width),
+        _ => text::left(b"voice alarm", width),
     }
 }

@@ -8,7 +8,7 @@ use crate::names;
 use plan::Plan;
 
 fn input(line: usize) {
-    let Strip(_, input, format, _, _) = layout::strip_at(line);
+    let Strip(_, input, format, _, _, _, _) = layout::strip_at(line);
     text::right(input as u64, 6);
     text::put(b"  ");
     names::strip(line, 14);
@@ -16,6 +16,7 @@ fn input(line: usize) {
     match line {
         layout::SINGER => text::put(b", with a panner"),
         layout::BAND => text::put(b", with an insert and a width"),
+        layout::ANNOUNCEMENT => text::put(b", with no fade, and safe in an adoption"),
         _ => {}
     }
     text::put(b"\n");
@@ -53,6 +54,7 @@ fn output(slot: usize) {
     match from {
         layout::OF_SENDS => sends(slot),
         layout::OF_INSERT => text::put(b"send of the insert on band"),
+        layout::OF_ANNOUNCEMENT => text::put(b"announcement alone"),
         _ => {
             text::put(b"fold of ");
             names::slot(from, 0);
@@ -92,5 +94,5 @@ pub fn counts(plan: Plan) {
 // The head of the run, and what its first block begins with.
 pub fn run() {
     text::put(b"\nRun: 750 blocks of 256 samples, four seconds at 48,000 a second\n");
-    text::put(b"       0  every level fades in over 4,800 samples\n");
+    text::put(b"       0  every level but the announcement's fades in over 4,800 samples\n");
 }

@@ -49,11 +49,8 @@ fn line(from: usize, what: &[u8], r: Refusal, before: u32, after: u32) {
     settings::line(from, what);
     text::put(b": ");
     why(r);
-    if before == after {
-        text::put(b"; its areas are as they were: yes\n");
-        return;
-    }
-    text::put(b"; its areas are as they were: no\n");
+    text::put(b"; its areas are as they were: ");
+    settings::ends(before == after);
 }
 
 fn setting(
@@ -101,7 +98,7 @@ fn short_run(
     if let Ran::Refused(r) = answer {
         line(
             from,
-            b"a run with an output area of 5,375 samples",
+            b"a run with an output area of 5,631 samples",
             r,
             before,
             after,

@@ -15,7 +15,7 @@ ghost use Prim.Native.Nat.{_+_, _<_};
 ghost use lib.ListN.{length};
 
 // The channels of all slots.
-const CHANNELS: usize = 21;
+const CHANNELS: usize = 22;
 
 pub const OUTPUT: usize = CHANNELS * BLOCK;
 
@@ -59,7 +59,7 @@ pub fn ran(
 // The digest of each slot, with a block more. The blocks of the plan's Outputs stand one after the other in the output area, in step order and channel
 // by channel. Requires a digest for each slot.
 fn digest_block(output: &[f32], digests: &mut [u32])
-    requires { ⌜ length (now digests) ≡ 10 ⌝ }
+    requires { ⌜ length (now digests) ≡ 11 ⌝ }
 {
     let mut at = 0;
     for i in 0..layout::SLOTS {
@@ -85,7 +85,7 @@ fn played(
     buffers: &mut [f32],
     digests: &mut [u32],
 ) -> Answer
-    requires { ⌜ (from + 256 < 4294967296) × (length (now digests) ≡ 10) ⌝ }
+    requires { ⌜ (from + 256 < 4294967296) × (length (now digests) ≡ 11) ⌝ }
 {
     let mut output = [0.0f32; OUTPUT];
     match ran(
@@ -119,7 +119,7 @@ fn block(
     buffers: &mut [f32],
     digests: &mut [u32],
 ) -> Answer
-    requires { ⌜ (from + 256 < 4294967296) × (length (now digests) ≡ 10) ⌝ }
+    requires { ⌜ (from + 256 < 4294967296) × (length (now digests) ≡ 11) ⌝ }
 {
     if let Answer::Refused(r) = settings::before(from, plan.nodes, floats, words) {
         return Answer::Refused(r);
@@ -158,7 +158,7 @@ pub fn blocks(
     buffers: &mut [f32],
     digests: &mut [u32],
 ) -> Answer
-    requires { ⌜ length (now digests) ≡ 10 ⌝ }
+    requires { ⌜ length (now digests) ≡ 11 ⌝ }
 {
     for i in 0..BLOCKS {
         let answer = block(

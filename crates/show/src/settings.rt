@@ -16,11 +16,22 @@ const TALKBACK_OPENED: usize = 120_064;
 
 const FILM_CLOSED: usize = 144_128;
 
+const ANNOUNCEMENT_DOWN: usize = 180_224;
+
 // What happens before a block stands on a line that begins with the block's first sample.
 pub fn line(from: usize, what: &[u8]) {
     text::right(from as u64, 8);
     text::put(b"  ");
     text::put(what);
+}
+
+// The end of such a line that says whether something is so.
+pub fn ends(yes: bool) {
+    if yes {
+        text::put(b"yes\n");
+        return;
+    }
+    text::put(b"no\n");
 }
 
 // The setting before the block that starts at a sample, in words.
@@ -32,6 +43,7 @@ fn told(from: usize) {
         BAND_BYPASSED => line(from, b"insert on band bypassed over 4,800 samples\n"),
         TALKBACK_OPENED => line(from, b"talkback opened in the hall over 100 samples\n"),
         FILM_CLOSED => line(from, b"film closed in the hall at once\n"),
+        ANNOUNCEMENT_DOWN => line(from, b"announcement to 0.25 over 4,800 samples\n"),
         _ => {}
     }
 }
@@ -83,6 +95,14 @@ pub fn before(from: usize, nodes: usize, floats: &mut [f32], words: &mut [u32]) 
         BAND_BYPASSED => bypass(4_800, nodes, floats, words),
         TALKBACK_OPENED => level(layout::TALKBACK_IN_HALL, 1.0, 100, nodes, floats, words),
         FILM_CLOSED => level(layout::FILM_IN_HALL, 0.0, 0, nodes, floats, words),
+        ANNOUNCEMENT_DOWN => level(
+            layout::ANNOUNCEMENT_LEVEL,
+            0.25,
+            4_800,
+            nodes,
+            floats,
+            words,
+        ),
         _ => Answer::Accepted,
     }
 }

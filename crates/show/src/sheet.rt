@@ -35,7 +35,7 @@ fn row(
 
 // The rows of all slots. Requires a digest for each.
 pub fn rows(digests: &[u32], plan: Plan, indices: &[u32], words: &[u32], steps: &[u32]) -> Answer
-    requires { ⌜ length (now digests) ≡ 10 ⌝ }
+    requires { ⌜ length (now digests) ≡ 11 ⌝ }
 {
     text::put(b"\nCue sheet\n  slot  output        digest    count  inputs behind it\n");
     for slot in 0..layout::SLOTS {

@@ -25,11 +25,7 @@ fn told(from: u32, heard: bool) {
         from as usize,
         b"a stand-in for the narrator appended to the directory; heard: ",
     );
-    if heard {
-        text::put(b"yes\n");
-        return;
-    }
-    text::put(b"no\n");
+    settings::ends(heard);
 }
 
 // Its line behind its first block, and one behind each later block in which it is not heard. It is heard where the narrator's buffer, the first

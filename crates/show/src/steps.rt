@@ -55,6 +55,8 @@ pub fn level(
     draft: Draft,
     id: u32,
     gain: f32,
+    ramp: u32,
+    safe: u32,
     indices: &mut [u32],
     floats: &mut [f32],
     words: &mut [u32],
@@ -63,7 +65,8 @@ pub fn level(
     let src = draft.span;
     let draft = draft::buffers(draft, src.len as usize, indices);
     let dst = draft.span;
-    let draft = draft::node(draft, id, &[gain; layout::STRIP_GAINS], floats, words);
+    let gains = [gain; layout::STRIP_GAINS];
+    let draft = draft::node(draft, id, &gains, ramp, safe, floats, words);
     let node = draft.node;
     draft::step(
         draft,
@@ -86,7 +89,7 @@ pub fn matrix(
     let src = draft.span;
     let draft = draft::buffers(draft, rows, indices);
     let dst = draft.span;
-    let draft = draft::node(draft, id, gains, floats, words);
+    let draft = draft::node(draft, id, gains, draft::FADE, 0, floats, words);
     let node = draft.node;
     draft::step(
         draft,

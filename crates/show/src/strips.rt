@@ -70,10 +70,10 @@ fn input(
     words: &mut [u32],
     steps: &mut [u32],
 ) -> Draft {
-    let Strip(id, input, format, _, gain) = layout::strip_at(line);
+    let Strip(id, input, format, _, gain, ramp, safe) = layout::strip_at(line);
     let draft = steps::patched(draft, input, format, indices, steps);
     let draft = inserts::made(draft, line, indices, coefficients, floats, words, steps);
-    steps::level(draft, id, gain, indices, floats, words, steps)
+    steps::level(draft, id, gain, ramp, safe, indices, floats, words, steps)
 }
 
 fn strip(

@@ -1,4 +1,4 @@
--- `show::buses::outputs` meets its contract. What is left of the slots falls with each turn. Assumes nothing.
+-- `show::buses::outputs` meets its contract. What is left of the Outputs falls with each turn. Assumes nothing.
 use Prim.Native.Nat.{_-_, _≤_}
 use mathlib.Core.Path.{_≡_}
 use lib.ListN.{length}
@@ -7,22 +7,25 @@ use Rattle.show.proofs.buses.outputs.Statement.{statement}
 use Rattle.show.proofs.buses.outputs.Tie as tie
 
 abbrev Inv-loop : tie.InvT-loop
-Inv-loop steps₀ draft₀ slot₀ steps draft slot = (slot ≤ 9) × (length steps ≡ length steps₀)
+Inv-loop steps₀ draft₀ i₀ steps draft i = (i ≤ 11) × (length steps ≡ length steps₀)
 
 abbrev μ-loop : tie.MeasureT-loop
-μ-loop steps₀ draft₀ slot₀ steps draft slot = 9 - slot
+μ-loop steps₀ draft₀ i₀ steps draft i = 11 - i
 
 loop-holds : tie.Need-loop-holds Inv-loop μ-loop
 loop-holds c = search needs
 
-bus-requires : tie.Need-bus-requires Inv-loop μ-loop
-bus-requires c κs = search needs
+output-slot-requires : tie.Need-output-slot-requires Inv-loop μ-loop
+output-slot-requires c κs = search needs
+
+output-line-requires : tie.Need-output-line-requires Inv-loop μ-loop
+output-line-requires c κs = search needs
 
 line-of-requires : tie.Need-line-of-requires Inv-loop μ-loop
 line-of-requires c κs = search needs
 
-cast-t9 : tie.Need-cast-t9 Inv-loop μ-loop
-cast-t9 c = search needs
+cast-t10 : tie.Need-cast-t10 Inv-loop μ-loop
+cast-t10 c = search needs
 
 slice-aggregate-step : tie.Need-slice-aggregate-step Inv-loop μ-loop
 slice-aggregate-step c = search needs
@@ -30,8 +33,8 @@ slice-aggregate-step c = search needs
 step-requires : tie.Need-step-requires Inv-loop μ-loop
 step-requires c κs = search needs
 
-add-slot : tie.Need-add-slot Inv-loop μ-loop
-add-slot c = search needs
+add-i : tie.Need-add-i Inv-loop μ-loop
+add-i c = search needs
 
 loop-less : tie.Need-loop-less Inv-loop μ-loop
 loop-less c = search needs
@@ -52,12 +55,13 @@ outputs-spec =
     Inv-loop
     μ-loop
     loop-holds
-    bus-requires
+    output-slot-requires
+    output-line-requires
     line-of-requires
-    cast-t9
+    cast-t10
     slice-aggregate-step
     step-requires
-    add-slot
+    add-i
     loop-less
     loop-again
     same-length

@@ -5,10 +5,10 @@ use Rattle.show.proofs.overview.inputs.Statement.{statement}
 use Rattle.show.proofs.overview.inputs.Tie as tie
 
 abbrev Inv-loop : tie.InvT-loop
-Inv-loop line₀ line = line ≤ 6
+Inv-loop line₀ line = line ≤ 7
 
 abbrev μ-loop : tie.MeasureT-loop
-μ-loop line₀ line = 6 - line
+μ-loop line₀ line = 7 - line
 
 slice-aggregate-put : tie.Need-slice-aggregate-put Inv-loop μ-loop
 slice-aggregate-put c = search needs

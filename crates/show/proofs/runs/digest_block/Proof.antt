@@ -9,10 +9,10 @@ use Rattle.show.proofs.runs.digest_block.Statement.{statement}
 use Rattle.show.proofs.runs.digest_block.Tie as tie
 
 abbrev Inv-loop : tie.InvT-loop
-Inv-loop output digests₀ at₀ i₀ digests at i = (i ≤ 10) × (at ≤ length output) × (length digests ≡ length digests₀)
+Inv-loop output digests₀ at₀ i₀ digests at i = (i ≤ 11) × (at ≤ length output) × (length digests ≡ length digests₀)
 
 abbrev μ-loop : tie.MeasureT-loop
-μ-loop output digests₀ at₀ i₀ digests at i = 10 - i
+μ-loop output digests₀ at₀ i₀ digests at i = 11 - i
 
 loop-holds : tie.Need-loop-holds Inv-loop μ-loop
 loop-holds c = search needs

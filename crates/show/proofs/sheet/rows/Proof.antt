@@ -5,10 +5,10 @@ use Rattle.show.proofs.sheet.rows.Statement.{statement}
 use Rattle.show.proofs.sheet.rows.Tie as tie
 
 abbrev Inv-loop : tie.InvT-loop
-Inv-loop digests plan indices words steps slot₀ slot = slot ≤ 10
+Inv-loop digests plan indices words steps slot₀ slot = slot ≤ 11
 
 abbrev μ-loop : tie.MeasureT-loop
-μ-loop digests plan indices words steps slot₀ slot = 10 - slot
+μ-loop digests plan indices words steps slot₀ slot = 11 - slot
 
 slice-aggregate-put : tie.Need-slice-aggregate-put Inv-loop μ-loop
 slice-aggregate-put c = search needs

@@ -7,10 +7,10 @@ use Rattle.show.proofs.strips.all.Statement.{statement}
 use Rattle.show.proofs.strips.all.Tie as tie
 
 abbrev Inv-loop : tie.InvT-loop
-Inv-loop indices₀ coefficients₀ floats₀ words₀ steps₀ draft₀ line₀ indices coefficients floats words steps draft line = (line ≤ 6) × (length indices ≡ length indices₀) × (length coefficients ≡ length coefficients₀) × (length floats ≡ length floats₀) × (length words ≡ length words₀) × (length steps ≡ length steps₀)
+Inv-loop indices₀ coefficients₀ floats₀ words₀ steps₀ draft₀ line₀ indices coefficients floats words steps draft line = (line ≤ 7) × (length indices ≡ length indices₀) × (length coefficients ≡ length coefficients₀) × (length floats ≡ length floats₀) × (length words ≡ length words₀) × (length steps ≡ length steps₀)
 
 abbrev μ-loop : tie.MeasureT-loop
-μ-loop indices₀ coefficients₀ floats₀ words₀ steps₀ draft₀ line₀ indices coefficients floats words steps draft line = 6 - line
+μ-loop indices₀ coefficients₀ floats₀ words₀ steps₀ draft₀ line₀ indices coefficients floats words steps draft line = 7 - line
 
 loop-holds : tie.Need-loop-holds Inv-loop μ-loop
 loop-holds c = search needs

@@ -1,0 +1,2 @@
+-- laws of the digests of nodes
+pub mod Laws

@@ -1,0 +1,2 @@
+-- What the contracts speak of: the nodes of two plans.
+pub mod Nodes
