@@ -62,7 +62,7 @@ enum mixer_number {
     MIXER_SHORT_OUTPUT = 13,  /* an output area shorter than the Outputs of the plan */
 
     /* to the keeper of the areas */
-    MIXER_BAD_NODE = 14, /* a node, used or not, with len above 24, left above 16,777,216 or, to the layout writer too, safe above 1 */
+    MIXER_BAD_NODE = 14, /* a lent node, used or not, with len above 24, left above 16,777,216 or safe above 1; of mixer_node, a safe above 1 */
 
     /* to the reader of lists and folds */
     MIXER_NO_SLOT = 15,      /* a slot above the highest that an Output names */

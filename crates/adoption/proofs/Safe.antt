@@ -1,7 +1,7 @@
 -- Safe nodes: no adoption touches one, and an adoption is the Rust's of the list without their pairs, so of the whole list where no node is safe.
 -- Assumes nothing.
-use mathlib.Core.Path.{_≡_, refl, sym, ap, _∙_}
-use mathlib.Core.Bool.{Bool, true, false, not, _&&_, _||_, cond}
+use mathlib.Core.Path.{_≡_, refl, ap, _∙_}
+use mathlib.Core.Bool.{Bool, true, false, not, _&&_, cond, or-false}
 use mathlib.Core.List.{List, [], _∷_}
 use Prim.Native.Nat.{ℕ, _<_}
 use native.Mathlib.Decide.{decLt}
@@ -17,10 +17,6 @@ use Rattle.adoption.proofs.Pairs.{pair-skipped, pair-fit}
 use Rattle.adoption.proofs.Kept.{Kept, kept-self, kept-trans, pair-kept}
 use Rattle.adoption.proofs.Named.{names, named}
 use Rattle.adoption.proofs.Adoption.{after, after-accepted, adoption-unnamed}
-
-or-false : (a : Bool) → (a || false) ≡ a
-or-false true = refl
-or-false false = refl
 
 -- ---- a safe node
 
@@ -91,9 +87,10 @@ module _ (start old : Lent) (ramp : ℕ) where
       pairs-same pairs (pair-fit n o f) (kept-trans k (pair-kept n o f)) none ∙ ap (pairsBy unmatched old ramp pairs) (pair-same n o _ k none)
 
 module _ (new old : Lent) (pairs : List ℕ) (ramp : ℕ) (e : adoptionAnswer new old pairs ramp ≡ Accepted) where
+  -- an accepted adoption is the Rust's, of the list without the pairs of safe nodes
   pub without-safe : after new old pairs ramp ≡ pairsBy unmatched old ramp (withoutSafe new pairs) new
   without-safe = after-accepted new old pairs ramp e ∙ pairs-rust new old ramp pairs (accepted-fit new old pairs ramp e) (kept-self new)
 
-  -- "With safe 0 all nodes behave as the Rust's"
+  -- "With safe 0 all nodes behave as the Rust's", of an adoption that is accepted
   pub none-safe : ((i : ℕ) → i < new .count → safeIn new i ≡ false) → after new old pairs ramp ≡ pairsBy unmatched old ramp pairs new
   none-safe none = after-accepted new old pairs ramp e ∙ pairs-same new old ramp pairs (accepted-fit new old pairs ramp e) (kept-self new) none

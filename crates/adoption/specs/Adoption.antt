@@ -1,4 +1,5 @@
--- `adopt`, by document 01's section "Adoption": its tests, 5 (nodes, new or old), 2, 11, 14, 10, its answer, and what it writes. Definitions only.
+-- `adopt`, by document 01's section "Adoption" and request C-13: its tests, 5 (nodes, new or old), 2, 11, 14, 10, its answer, and what it writes.
+-- Definitions only.
 use Prim.Native.Nat.{ℕ, _%_}
 use mathlib.Core.Bool.{Bool, not, _||_, cond}
 use mathlib.Core.List.{List, [], _∷_}
@@ -62,7 +63,7 @@ adopted new old ramp = setNode (changed new (old .cur) (new .target) (new .step)
 abbrev pub unmatched : Lent → Lent → ℕ → ℕ → Bool
 unmatched new old n o = leb (new .count) n || leb (old .count) o || not (eqb (lenAt (new .words) n) (lenAt (old .words) o))
 
--- node n is safe, a term of request C-13
+-- node n is safe, a term of request C-13: its word safe is not 0
 abbrev pub safeIn : Lent → ℕ → Bool
 safeIn l n = not (eqb (safeAt (l .words) n) 0)
 
@@ -88,12 +89,6 @@ pairsBy skips old ramp [] new = new
 pairsBy skips old ramp (n ∷ []) new = new
 pairsBy skips old ramp (n ∷ o ∷ pairs) new = pairsBy skips old ramp pairs (pairBy skips old ramp n o new)
 
--- without the pairs whose new node is safe: what the Rust, which has no safe nodes, would be given
-abbrev pub withoutSafe : Lent → List ℕ → List ℕ
-withoutSafe new [] = []
-withoutSafe new (n ∷ []) = n ∷ []
-withoutSafe new (n ∷ o ∷ pairs) = cond (safeIn new n) (withoutSafe new pairs) (n ∷ o ∷ withoutSafe new pairs)
-
 abbrev pub pairAdopted : Lent → ℕ → ℕ → ℕ → Lent → Lent
 pairAdopted = pairBy skipped
 
@@ -109,3 +104,11 @@ adoptionFloats new old pairs ramp = areaAfter (adoptionAnswer new old pairs ramp
 unfoldable pub adoptionWords : Lent → Lent → List ℕ → ℕ → List ℕ
 unfolding adoptionAnswer pairsBy
 adoptionWords new old pairs ramp = areaAfter (adoptionAnswer new old pairs ramp) (pairsAdopted old ramp pairs new .words) (new .words)
+
+-- ---- for the laws alone
+
+-- a list without the pairs whose new node is safe: of it the Rust's adoption, which knows no safe nodes, does what this one does of the whole
+abbrev pub withoutSafe : Lent → List ℕ → List ℕ
+withoutSafe new [] = []
+withoutSafe new (n ∷ []) = n ∷ []
+withoutSafe new (n ∷ o ∷ pairs) = cond (safeIn new n) (withoutSafe new pairs) (n ∷ o ∷ withoutSafe new pairs)

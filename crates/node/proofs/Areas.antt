@@ -64,7 +64,7 @@ module _ (words : List ℕ) (n : ℕ) (node : Node) where
       go (yes p) = getD-sets (m * nodeWords + j) words (n * nodeWords) (wordsOf node) 0 (inl (omega arith))
       go (no p) = getD-sets (m * nodeWords + j) words (n * nodeWords) (wordsOf node) 0 (inr (omega arith))
 
-  -- A word that is stored as it was is the same of every node after it, also where the area ends before it.
+  -- Where a store leaves word j of node n as it was, word j of every node is what it was, also where the area ends before that.
   pub word-stays : (m j : ℕ) → j < nodeWords → getD (wordsOf node) j 0 ≡ getD words (n * nodeWords + j) 0
       → getD (storedWords words n node) (m * nodeWords + j) 0 ≡ getD words (m * nodeWords + j) 0
   unfolding wordsOf

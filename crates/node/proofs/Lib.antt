@@ -4,7 +4,7 @@
 pub mod Casts
 -- a turn of each loop over a node
 pub mod Loops
--- full rows, id and len after each call
+-- full rows, and the id, the len and the safe after each call
 pub mod Kept
 -- the samples left after each call, and a node at rest
 pub mod Left

@@ -23,7 +23,7 @@ maxRamp = 16777216
 abbrev pub rampTooLong : ℕ → Bool
 rampTooLong ramp = ltb maxRamp ramp
 
--- the word safe of a node that no adoption touches, a term of request C-13, and the highest that it can be: "safe, 0 or 1"
+-- the highest value of the word safe of a node, a term of request C-13: "safe, 0 or 1". At 1 no adoption touches the node.
 abbrev pub maxSafe : ℕ
 maxSafe = 1
 

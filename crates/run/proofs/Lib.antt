@@ -16,5 +16,5 @@ pub mod Ramps
 pub mod Ready
 -- nodes that no step uses stay as they were
 pub mod Unused
--- the safe of a node after any calls
+-- the safe of a node after any settings and runs
 pub mod Safe

@@ -1,4 +1,4 @@
--- No setting and no run changes the safe of a node, whatever the areas hold and whichever of them is refused. Assumes nothing.
+-- No setting and no run, accepted or refused, changes the safe of a node, whatever the areas hold. Assumes nothing.
 use mathlib.Core.Path.{_≡_, refl, ap, _∙_}
 use mathlib.Core.List.{List, [], _∷_}
 use Prim.Native.Nat.{ℕ}
@@ -76,6 +76,7 @@ module _ (f : Fixed) (i : ℕ) where
       go Accepted e = rw (accepted-runs g s e) (steps-safe (f .plan .block) i (lookup directory samples) (stepsOfPlan f) s)
       go (Refused q) e = rw (refused-keeps g s e)
 
+  -- after any settings and runs every safe is what it was
   pub safe-stays : (cs : List Call) (h : Changing) → safeAt (afterAll f h cs .words) i ≡ safeAt (h .words) i
   safe-stays [] h = refl
   safe-stays (set id values ramp ∷ cs) h = safe-stays cs (after f h (set id values ramp)) ∙ set-safe h id values ramp

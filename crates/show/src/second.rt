@@ -14,15 +14,16 @@ const AT: usize = 192_000;
 const RAMP: u32 = 480;
 
 fn told(nodes: usize, alike: usize, as_built: bool) {
-    settings::line(AT, b"a second layout adopts ");
+    settings::line(AT, b"an adoption into a second layout names ");
     text::whole(nodes as u64);
-    text::put(b" nodes over 480 samples; ");
+    text::put(b" nodes, over 480 samples; ");
     text::whole(alike as u64);
-    text::put(b" start where the old ones are; the announcement's is as it was built: ");
+    text::put(b" start where the old ones are, and what is safe is as it was built: ");
     settings::ends(as_built);
 }
 
-// The new nodes adopt the old ones of their numbers, and a line says what they took. All are named, the safe one too.
+// The new nodes adopt the old ones of their numbers, and a line says what they took. All are named, the announcement's too, which is the only safe one:
+// that there is one shows in how many start elsewhere.
 fn adopted(
     nodes: usize,
     floats: &mut [f32],

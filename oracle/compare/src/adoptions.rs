@@ -41,7 +41,7 @@ fn list(fault: Option<Fault>, new: &Areas, old: &Areas, pairs: &[u32]) -> Vec<u3
         Some(Fault::SafeSwapped) => all().filter(safe).collect(),
         Some(Fault::SafeList) => all().filter(|_| !all().any(|p| safe(&p))).collect(),
         Some(Fault::SafeRest) => all().take_while(|p| !safe(p)).collect(),
-        _ => return paper::not_skipped(new, pairs),
+        _ => return paper::not_safe(new, pairs),
     };
     list.concat()
 }

@@ -155,8 +155,8 @@ pub fn bad_node(words: &[u32], nodes: usize) -> bool {
     words[..WORDS * nodes].chunks(WORDS).any(|w| w[LEN] as usize > VALUES || w[LEFT] > MAX_RAMP || w[SAFE] > MAX_SAFE)
 }
 
-/// The pairs (new, old) that an adoption does not skip: the new node's safe decides.
-pub fn not_skipped(new: &Areas, pairs: &[u32]) -> Vec<u32> {
+/// The pairs (new, old) but those whose new node is safe. The others that an adoption skips, the reference skips itself.
+pub fn not_safe(new: &Areas, pairs: &[u32]) -> Vec<u32> {
     pairs.chunks_exact(2).filter(|p| !new.is_safe(p[0])).flatten().copied().collect()
 }
 

@@ -226,7 +226,7 @@ impl Case {
 
     /// This plan takes over nodes of an old one.
     pub fn adopt(&mut self, new: &mut Held, old: &mut Held, pairs: &[u32], ramp: u32) {
-        let list = paper::not_skipped(&new.areas, pairs);
+        let list = paper::not_safe(&new.areas, pairs);
         self.reached.extend(branches::adoption(&new.rust, &old.rust, &list, ramp));
         self.reached.extend(recorded_safe::adoption(&new.areas, &old.areas, pairs));
         self.reached.extend(recorded_safe::shown(new, old, pairs, ramp));

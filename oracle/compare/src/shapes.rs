@@ -158,7 +158,7 @@ impl Safes {
         self.safe += (safe > 0) as u64;
     }
 
-    /// A setting, by the nodes before it or after it.
+    /// A setting that is taken. Ids and safes are the same before it and after it.
     pub fn setting(&mut self, a: &Areas, id: u32) {
         self.settings += safe_nodes(a).any(|i| a.word(i, ID) == id) as u64;
     }
