@@ -1,14 +1,16 @@
--- What each test of `width_matrix` makes of its answer, one law for each way out, in the order of the tests. Assumes nothing.
+-- What each test of `width_matrix` makes of its answer, one law for each way out, in the order of the tests; and what an accepted call says.
+-- Assumes nothing.
 use mathlib.Core.Path.{_≡_}
 use mathlib.Core.Bool.{true, false}
 use Prim.Native.Nat.{ℕ, _*_, _<_, _≤_}
-use borrow.Author.Tests.{lt-ltb, le-ltb, le-leb, lt-leb}
+use borrow.Author.Tests.{lt-ltb, le-ltb, le-leb, lt-leb, leb-false, ltb-false}
 use Rattle.refusal.specs.Numbers.{shortArea, noFormat, outOfRange}
 use Rattle.refusal.specs.Tests.{refusal}
+use Rattle.refusal.proofs.Laws.{accepted-none}
 use Rattle.refusal.specs.declared.Answer.the-variants.{Accepted, Refused}
 use Rattle.format.specs.Formats.{channels}
 use Rattle.format_fold.specs.Folds.{gainsInRange}
-use Rattle.format_fold.specs.Width.{widthAnswer}
+use Rattle.format_fold.specs.Width.{widthTests, widthAnswer}
 use Rattle.format_fold.specs.declared.FoldGains.{FoldGains}
 
 module _ (src dst : ℕ) (g : FoldGains) (n : ℕ) where
@@ -34,3 +36,15 @@ module _ (src dst : ℕ) (g : FoldGains) (n : ℕ) where
         pub width-accepted : channels dst * channels src ≤ n → widthAnswer src dst g n ≡ Accepted
         unfolding widthAnswer
         width-accepted l = rw (lt-leb 7 src hs, lt-leb 7 dst hd, e, le-ltb n (channels dst * channels src) l)
+
+-- an accepted call is of two formats, with room for the matrix
+pub record Fitting (src dst n : ℕ) : Type 0 where
+  pub source : src < 7
+  pub destination : dst < 7
+  pub room : channels dst * channels src ≤ n
+
+pub fitting : (src dst : ℕ) (g : FoldGains) (n : ℕ) → widthAnswer src dst g n ≡ Accepted → Fitting src dst n
+unfolding widthAnswer
+fitting src dst g n e =
+    let k = accepted-none (widthTests src dst g n) Accepted e .0 in
+    record { source = leb-false 7 src (k .0); destination = leb-false 7 dst (k .1 .0); room = ltb-false n (channels dst * channels src) (k .1 .1 .1 .0) }

@@ -8,7 +8,9 @@ use native.Mathlib.Omega.{arith}
 use lib.ListN.{length, getD, take, drop, length-drop, drop-of-length-le}
 use lib.Seq.{length-take-le, drop-cons, getD-take, getD-drop, drop-drop}
 use lib.Ieee.{Float, nan, binary64, add}
+use Rattle.format.specs.Formats.{channels}
 use Rattle.format.specs.Floats.{zero64, one64}
+use Rattle.format.proofs.Labels.{channels-le}
 use Rattle.format_fold.specs.declared.FoldGains.{FoldGains}
 use Rattle.format_fold.specs.Folds.{folded, depth, foldedEach}
 use Rattle.format_fold.specs.Width.{absolute, rowSum, larger, largest}
@@ -17,6 +19,13 @@ use Rattle.format_fold.specs.Width.{absolute, rowSum, larger, largest}
 
 pub places : (n k : ℕ) → n ≤ 12 → k ≤ 12 → n * k ≤ 144
 places n k hn hk = mul-le-mul hn hk
+
+-- the channels of two formats
+pub few : {n : ℕ} (f : ℕ) → n ≡ channels f → n ≤ 12
+few f e = omega (arith, channels-le f)
+
+pub size : {n k : ℕ} (f h : ℕ) → n ≡ channels f → k ≡ channels h → n * k ≤ 144
+size {n} {k} f h e d = places n k (few f e) (few h d)
 
 -- row i, with k places, and its place s
 pub row-fits : (i n k : ℕ) → i < n → n ≤ 12 → k ≤ 12 → i * k + k ≤ 144

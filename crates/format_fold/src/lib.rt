@@ -227,15 +227,9 @@ fn put(m: Matrix, n: usize, out: &mut [f32])
     }
 }
 
-// The mapping from the format src to dst, written row by row to the front of `out`: a row for each channel of dst, a column for each of src.
-pub fn width_matrix(
-    src: u32,
-    dst: u32,
-    gains: FoldGains,
-    normalise: bool,
-    out: &mut [f32],
-) -> Answer
-    ensures { λ r. ⌜ (r ≡ widthAnswer src dst gains (length (now (out .entry)))) × (now (out .exit) ≡ widthArea src dst gains normalise (now (out .entry))) ⌝ }
+// The tests of `width_matrix`, for an area of n floats. They are for the crates above too, and no call of the interface.
+pub fn width_answer(src: u32, dst: u32, gains: FoldGains, n: usize) -> Answer
+    ensures { λ r. ⌜ r ≡ widthAnswer src dst gains n ⌝ }
 {
     if Format::COUNT <= src {
         return Answer::refused(Refusal::NO_FORMAT);
@@ -246,15 +240,31 @@ pub fn width_matrix(
     if !gains_in_range(gains) {
         return Answer::refused(Refusal::OUT_OF_RANGE);
     }
-    let columns = Format::channels(src);
-    let rows = Format::channels(dst);
-    let n = rows * columns;
-    if out.len() < n {
+    if n < Format::channels(dst) * Format::channels(src) {
         return Answer::refused(Refusal::SHORT_AREA);
     }
+    Answer::Accepted
+}
+
+// The mapping from the format src to dst, written row by row to the front of `out`: a row for each channel of dst, a column for each of src.
+pub fn width_matrix(
+    src: u32,
+    dst: u32,
+    gains: FoldGains,
+    normalise: bool,
+    out: &mut [f32],
+) -> Answer
+    ensures { λ r. ⌜ (r ≡ widthAnswer src dst gains (length (now (out .entry)))) × (now (out .exit) ≡ widthArea src dst gains normalise (now (out .entry))) ⌝ }
+{
+    let answer = width_answer(src, dst, gains, out.len());
+    let Answer::Accepted = answer else {
+        return answer;
+    };
+    let columns = Format::channels(src);
+    let rows = Format::channels(dst);
     put(
         normalised(mapping(src, dst, gains), rows, columns, normalise),
-        n,
+        rows * columns,
         out,
     );
     Answer::Accepted
