@@ -1,4 +1,4 @@
-// The calls of crates `format`, `format_balance`, `format_fold` and `rounding`.
+// The calls of crates `format`, `format_balance`, `format_fold`, `format_table` and `rounding`.
 use format::Format;
 use format_fold::FoldGains;
 use mixer_replies::GainsReply;
@@ -13,6 +13,7 @@ ghost use Rattle.rounding.specs.Narrow.{narrowed};
 ghost use Rattle.format.specs.Formats.{channels, labelOf, indexOf, has};
 ghost use Rattle.format_balance.specs.Balance.{balanceGains, balanceAnswer, balanceArea, stereoMatrix};
 ghost use Rattle.format_fold.specs.Width.{widthAnswer, widthArea};
+ghost use Rattle.format_table.specs.With.{withAnswer, withArea};
 ghost use Rattle.mixer_replies.specs.Replies.{statusOf, gainsReply, stereoReply};
 
 #[no_mangle]
@@ -77,6 +78,30 @@ pub extern "C" fn mixer_width_matrix(
     ensures matrix { λ _. ⌜ now (matrix .exit) ≡ widthArea src dst gains normalise (now (matrix .entry)) ⌝ }
 {
     status_of(format_fold::width_matrix(src, dst, gains, normalise, matrix))
+}
+
+#[no_mangle]
+pub extern "C" fn mixer_width_matrix_with(
+    src: u32,
+    dst: u32,
+    gains: FoldGains,
+    normalise: bool,
+    pairs: &[u32],
+    table_gains: &[f32],
+    matrix: &mut [f32],
+) -> Status
+    ensures reply { λ r. ⌜ r ≡ statusOf (withAnswer src dst gains (length (now (matrix .entry))) (now (pairs .entry)) (now («table_gains» .entry))) ⌝ }
+    ensures matrix { λ _. ⌜ now (matrix .exit) ≡ withArea src dst gains normalise (now (pairs .entry)) (now («table_gains» .entry)) (now (matrix .entry)) ⌝ }
+{
+    status_of(format_table::width_matrix_with(
+        src,
+        dst,
+        gains,
+        normalise,
+        pairs,
+        table_gains,
+        matrix,
+    ))
 }
 
 #[no_mangle]

@@ -84,3 +84,17 @@ outOfRange = 17
 -- with a return, a return input or channel of 0 or a last channel above 4,294,967,295
 abbrev pub badReturn : ℕ
 badReturn = 18
+
+-- ---- reader of folds, of request C-14
+
+-- a table without an entry for a pair that it has to cover
+abbrev pub noEntry : ℕ
+noEntry = 19
+
+-- a table with two entries for one pair
+abbrev pub pairTwice : ℕ
+pairTwice = 20
+
+-- a table with an entry for a pair that is not to be covered
+abbrev pub pairNotCovered : ℕ
+pairNotCovered = 21

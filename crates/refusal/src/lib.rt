@@ -58,6 +58,13 @@ impl Refusal {
     // To the layout writer, of an insert.
     pub const BAD_RETURN: u32 = 18;
 
+    // To the reader of folds, of a table.
+    pub const NO_ENTRY: u32 = 19;
+
+    pub const PAIR_TWICE: u32 = 20;
+
+    pub const PAIR_NOT_COVERED: u32 = 21;
+
     // A refusal of a call that is at no step.
     pub fn of(number: u32) -> Refusal
         ensures { λ r. ⌜ r ≡ refusal number 0 ⌝ }
