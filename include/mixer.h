@@ -19,9 +19,9 @@
  * - the thread's floating-point state is the default one: round to nearest, no flush-to-zero, no denormals-are-zero, exceptions masked. With
  *   flush-to-zero on, as audio hosts have it, a sample of 1e-38 times a gain of 0.1 is 0 and not the float with the bits 000ae398; with upward
  *   rounding bits differ; with exceptions unmasked mixer_balance_gains(0.3) can end the program (tests/floats.c);
- * - the thread has stack left for the call: mixer_width_matrix uses at most 24 KB, mixer_output_sources and mixer_all_sources at most 10 KB,
- *   mixer_insert at most 4 KB, every other call at most 2 KB, the arguments included (tests/stack.c). The library calls memcpy and memset: where the
- *   linker looks these up at their first call, more comes on top once (some 3 KB where it was measured).
+ * - the thread has stack left for the call: mixer_width_matrix and mixer_width_matrix_with use at most 24 KB, mixer_output_sources and
+ *   mixer_all_sources at most 10 KB, mixer_insert at most 4 KB, every other call at most 2 KB, the arguments included (tests/stack.c). The library calls
+ *   memcpy and memset: where the linker looks these up at their first call, more comes on top once (some 3 KB where it was measured).
  */
 #ifndef MIXER_H
 #define MIXER_H
@@ -66,11 +66,16 @@ enum mixer_number {
 
     /* to the reader of lists and folds */
     MIXER_NO_SLOT = 15,      /* a slot above the highest that an Output names */
-    MIXER_NO_FORMAT = 16,    /* a format above 6; to the layout writer too, of an insert */
-    MIXER_OUT_OF_RANGE = 17, /* a fold gain not from +0 to 16, a balance that is not finite, a width not from -2 to 2 */
+    MIXER_NO_FORMAT = 16,    /* a format above 6, also of an entry of a house table; to the layout writer too, of an insert */
+    MIXER_OUT_OF_RANGE = 17, /* a fold gain, a house table's too, not from +0 to 16, a balance that is not finite, a width not from -2 to 2 */
 
     /* to the layout writer, of an insert */
-    MIXER_BAD_RETURN = 18 /* a return input or channel of 0, or a last channel above 4,294,967,295 */
+    MIXER_BAD_RETURN = 18, /* a return input or channel of 0, or a last channel above 4,294,967,295 */
+
+    /* to the reader of folds, of a house table */
+    MIXER_NO_ENTRY = 19,        /* no entry for a pair that a table covers */
+    MIXER_PAIR_TWICE = 20,      /* two entries for one pair, covered or not */
+    MIXER_PAIR_NOT_COVERED = 21 /* an entry for a pair that a table does not cover */
 };
 
 /* The number, and the step, from 1, that the plan check was at; the place is 0 in every other refusal. Both are 0 where the call was accepted. */
@@ -239,8 +244,7 @@ mixer_plan_reply mixer_finish(mixer_plan plan, float *buffers, size_t buffers_le
 
 /* ---- A plan in use */
 
-/* How many entries of the area that a call is lent for its answer it has written, from the front on; of mixer_all_sources, how many slots there
- * are. */
+/* How many entries of the area that a call is lent for its answer it has written, from the front on; of mixer_all_sources, how many slots there are. */
 typedef struct {
     mixer_status status;
     size_t count;
@@ -319,22 +323,8 @@ enum mixer_format {
 };
 
 enum mixer_label {
-    MIXER_M = 0,
-    MIXER_L = 1,
-    MIXER_R = 2,
-    MIXER_C = 3,
-    MIXER_LFE = 4,
-    MIXER_LS = 5,
-    MIXER_RS = 6,
-    MIXER_LSS = 7,
-    MIXER_RSS = 8,
-    MIXER_LRS = 9,
-    MIXER_RRS = 10,
-    MIXER_LTF = 11,
-    MIXER_RTF = 12,
-    MIXER_LTR = 13,
-    MIXER_RTR = 14,
-    MIXER_NO_LABEL = 15
+    MIXER_M = 0, MIXER_L = 1, MIXER_R = 2, MIXER_C = 3, MIXER_LFE = 4, MIXER_LS = 5, MIXER_RS = 6, MIXER_LSS = 7, MIXER_RSS = 8,
+    MIXER_LRS = 9, MIXER_RRS = 10, MIXER_LTF = 11, MIXER_RTF = 12, MIXER_LTR = 13, MIXER_RTR = 14, MIXER_NO_LABEL = 15
 };
 
 /* How many channels the format has, at most 12; none where there is no such format. */
@@ -388,6 +378,16 @@ mixer_stereo_reply mixer_stereo_matrix(double width, double balance);
  * values and of a Send's weights. To normalise, a fold of more than two channels into fewer is divided by its largest row sum of magnitudes, where
  * that is above 1. Refused: 16, 17, 2. */
 mixer_status mixer_width_matrix(uint32_t src, uint32_t dst, mixer_fold_gains gains, bool normalise, float *matrix, size_t matrix_len);
+
+/* The same with a house table, the sound designer's own folds. It covers the 24 pairs of a src of more than two channels and a dst that lacks one of its
+ * labels: LCR to mono and stereo; 5.1 to mono, stereo, LCR, 7.1 and 7.1.4; 7.1 to mono, stereo, LCR, 5.1 and 5.1.4; 5.1.4 and 7.1.4 to every other
+ * format. `pairs` has two formats an entry, src and dst; a last odd one is ignored. `table_gains` has the entries' gains, each from +0 to 16, entry after
+ * entry: for each as many as src has channels times those of dst, in the order of `matrix`; the rest is ignored. A table has one entry for each covered
+ * pair, in any order, and no other: 48 formats, or 49, and at least 1,021 gains. The entry of a covered pair goes to `matrix` as it is, whatever `gains`
+ * and `normalise` are; for any other pair `matrix` gets what mixer_width_matrix writes. The whole table is looked at for every pair, in time linear in
+ * its lengths. Refused: 16, 17, 2 as mixer_width_matrix, for every pair; then of the table 16, 2 (fewer gains than its entries need), 17, 19, 20, 21. */
+mixer_status mixer_width_matrix_with(uint32_t src, uint32_t dst, mixer_fold_gains gains, bool normalise, const uint32_t *pairs,
+                                     size_t pairs_len, const float *table_gains, size_t table_gains_len, float *matrix, size_t matrix_len);
 
 /* x rounded to the nearest float, a tie to the even one; what is too large is an infinity, and a NaN gives a NaN. */
 float mixer_to_f32(double x);

@@ -1,5 +1,5 @@
 /* Calls each function that include/mixer.h declares, once accepted and once refused where it can be, and looks at the reply and at the areas; but
- * mixer_insert is in tests/inserts.c and tests/insert_refusals.c.
+ * mixer_insert is in tests/inserts.c and tests/insert_refusals.c, mixer_width_matrix_with in tests/tables.c and tests/tables_refusals.c.
  * A proof cannot see a field or a parameter of the header that stands in another's place. So the fields of a struct and the parameters of one type
  * in a call differ here in some call, fields are named where a record is made, and areas are lent in different lengths. */
 #include <math.h>

@@ -3,6 +3,7 @@
 #include <string.h>
 
 #include "check.h"
+#include "pairs.h"
 
 #define AREA(a) (a), sizeof(a) / sizeof((a)[0])
 
@@ -147,6 +148,27 @@ static void labels_of_formats(void)
     REFUSED(mixer_stereo_matrix(-2.5, 0.0).status, MIXER_OUT_OF_RANGE, 0);
 }
 
+/* A table of the covered pairs with gains of 0, and then a pair more; the area has room for the one fold that is asked for. */
+static mixer_status fold_with(size_t numbers, uint32_t src, uint32_t dst)
+{
+    const mixer_fold_gains gains = {0};
+    uint32_t table[NUMBERS + 2];
+    float matrix[2];
+    memcpy(table, covered, sizeof covered);
+    table[NUMBERS] = src;
+    table[NUMBERS + 1] = dst;
+    return mixer_width_matrix_with(MIXER_STEREO, MIXER_MONO, gains, false, table, numbers, AREA(values), AREA(matrix));
+}
+
+static void faults_of_tables(void)
+{
+    ACCEPTED(fold_with(NUMBERS, 0, 0));
+    REFUSED(fold_with(NUMBERS - 2, 0, 0), MIXER_NO_ENTRY, 0);
+    REFUSED(fold_with(NUMBERS + 2, MIXER_LCR, MIXER_MONO), MIXER_PAIR_TWICE, 0);
+    REFUSED(fold_with(NUMBERS + 2, MIXER_MONO, MIXER_LCR), MIXER_PAIR_NOT_COVERED, 0);
+    REFUSED(fold_with(NUMBERS + 2, MIXER_MONO, MIXER_SURROUND_714 + 1), MIXER_NO_FORMAT, 0);
+}
+
 int main(void)
 {
     tables_at_limits();
@@ -155,5 +177,6 @@ int main(void)
     returns_at_limits();
     directories_at_limits();
     labels_of_formats();
+    faults_of_tables();
     return failures != 0;
 }

@@ -6,6 +6,7 @@
 #include <string.h>
 
 #include "check.h"
+#include "pairs.h"
 
 enum { STACK = 256 * 1024, PAINT = 0xa5, KB = 1024 };
 enum { BLOCK = 1024, BUFFERS = 6, NODES = 3, SLOTS = 32, WORDS = 256 };
@@ -238,6 +239,20 @@ static void job_width_matrix(void)
     }
 }
 
+/* Every two formats with a table, so that covered pairs and others are asked for. */
+static void job_width_matrix_with(void)
+{
+    static const float table_gains[GAINS];
+    const mixer_fold_gains gains = {0.5, 0.5, 0.5, 0.5, 0.5, 0.5};
+    uint32_t src, dst;
+    for (src = 0; src <= MIXER_SURROUND_714; src++) {
+        for (dst = 0; dst <= MIXER_SURROUND_714; dst++) {
+            ACCEPTED(mixer_width_matrix_with(src, dst, gains, false, AREA(covered), AREA(table_gains), AREA(output)));
+            ACCEPTED(mixer_width_matrix_with(src, dst, gains, true, AREA(covered), AREA(table_gains), AREA(output)));
+        }
+    }
+}
+
 /* No call of the mixer, but a known use, so that the measure itself is held. */
 static void job_known(void)
 {
@@ -275,6 +290,7 @@ static const struct {
     {"balance_of", job_balance_of, 2 * KB},
     {"stereo_matrix", job_stereo_matrix, 2 * KB},
     {"width_matrix", job_width_matrix, 24 * KB},
+    {"width_matrix_with", job_width_matrix_with, 24 * KB},
     {"to_f32", job_to_f32, 2 * KB},
 };
 

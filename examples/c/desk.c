@@ -1,8 +1,10 @@
 /* A small layout over the mixer's C interface: a microphone and a stereo band into the hall (slot 0), the microphone alone to the stage (slot 1).
  * On its way to the hall the microphone has an insert: it goes to an effects box (slot 2), and what the box sends back can be heard in its place.
- * Emergency announcements go to the hall too, at a gain that no new layout takes over from an old one. */
+ * Emergency announcements go to the hall too, at a gain that no new layout takes over from an old one. In the end a sound designer's own fold from
+ * 5.1 to stereo, in a house table. */
 #include <stdio.h>
 #include <stdlib.h>
+#include <string.h>
 
 #include "mixer.h"
 
@@ -11,6 +13,17 @@ enum { MICROPHONE = 12, BAND = 40, BOX = 60, ANNOUNCEMENT = 80 };
 
 /* The ids of the nodes, in the order in which the nodes are made. */
 enum { STRIP_LEVEL = 100, BAND_LEVEL, STAGE_LEVEL, ANNOUNCEMENT_LEVEL, BOX_SEND, BOX_RETURN, BOX_DRY, BOX_WET, BOX_DRYIN, BOX_WETIN };
+
+/* A house table: its 24 entries, two formats each, and their gains. */
+enum { TABLE_FORMATS = 48, TABLE_GAINS = 1021 };
+
+struct table {
+    size_t pairs_len, gains_len;
+    uint32_t pairs[TABLE_FORMATS];
+    float gains[TABLE_GAINS];
+};
+
+static const mixer_fold_gains fold_gains = {0.5, 0.5, 0.5, 0.5, 0.5, 0.0};
 
 /* The record of a plan and its areas, and the entries of the directory that it is run with. */
 struct desk {
@@ -44,10 +57,9 @@ static mixer_span buffers(struct desk *d, size_t n)
 
 static mixer_span weights(struct desk *d, uint32_t src, uint32_t dst)
 {
-    const mixer_fold_gains gains = {0.5, 0.5, 0.5, 0.5, 0.5, 0.0};
     float matrix[4];
     mixer_span_reply r;
-    expect("width_matrix", mixer_width_matrix(src, dst, gains, false, AREA(matrix)));
+    expect("width_matrix", mixer_width_matrix(src, dst, fold_gains, false, AREA(matrix)));
     r = mixer_coefficients(d->plan, matrix, mixer_format_channels(src) * mixer_format_channels(dst), AREA(d->coefficients));
     expect("coefficients", r.status);
     d->plan = r.plan;
@@ -147,20 +159,26 @@ static mixer_count_reply run(struct desk *d, float *output, size_t n)
                          AREA(d->buffers), directory, MIXER_ENTRY_WORDS * d->entries, AREA(samples), output, n);
 }
 
+static void line(const char *name, const float *values, size_t n)
+{
+    size_t k;
+    printf("  %-10s", name);
+    for (k = 0; k < n; k++) {
+        printf(" %.5f", (double)values[k]);
+    }
+    printf("\n");
+}
+
 static void block(struct desk *d)
 {
     static const char *const names[CHANNELS] = {"effects", "hall left", "hall right", "stage"};
     float output[CHANNELS * BLOCK];
     mixer_count_reply r = run(d, AREA(output));
-    size_t c, k;
+    size_t c;
     expect("process", r.status);
     printf("block of %zu samples\n", r.count);
     for (c = 0; c < CHANNELS; c++) {
-        printf("  %-10s", names[c]);
-        for (k = 0; k < BLOCK; k++) {
-            printf(" %.5f", (double)output[c * BLOCK + k]);
-        }
-        printf("\n");
+        line(names[c], output + c * BLOCK, BLOCK);
     }
 }
 
@@ -215,6 +233,68 @@ static void cue_list(const struct desk *d, uint32_t slot)
     printf("\n");
 }
 
+/* Whether a house table covers the pair: src has more than two channels, and dst lacks a label of one. */
+static bool covers(uint32_t src, uint32_t dst)
+{
+    size_t c;
+    for (c = 0; c < mixer_format_channels(src); c++) {
+        if (!mixer_format_has(dst, mixer_format_label(src, c))) {
+            return mixer_format_channels(src) > 2;
+        }
+    }
+    return false;
+}
+
+/* The next entry of the table: the built-in fold, but from 5.1 to stereo the designer's own. */
+static void add_entry(struct table *t, uint32_t src, uint32_t dst)
+{
+    static const float own[] = {1, 0, 0.75f, 0.25f, 0.375f, 0.125f, 0, 1, 0.75f, 0.25f, 0.125f, 0.375f};
+    float *entry = t->gains + t->gains_len;
+    t->pairs[t->pairs_len++] = src;
+    t->pairs[t->pairs_len++] = dst;
+    expect("width_matrix", mixer_width_matrix(src, dst, fold_gains, false, entry, TABLE_GAINS - t->gains_len));
+    if (src == MIXER_SURROUND_51 && dst == MIXER_STEREO) {
+        memcpy(entry, own, sizeof own);
+    }
+    t->gains_len += mixer_format_channels(src) * mixer_format_channels(dst);
+}
+
+static mixer_status fold(const struct table *t, uint32_t src, uint32_t dst, float *matrix, size_t len)
+{
+    return mixer_width_matrix_with(src, dst, fold_gains, false, t->pairs, t->pairs_len, t->gains, t->gains_len, matrix, len);
+}
+
+/* A fold to stereo, a line for each of its rows. */
+static void rows(const char *name, const float *matrix, size_t columns)
+{
+    printf("%s\n", name);
+    line("left", matrix, columns);
+    line("right", matrix + columns, columns);
+}
+
+static void house_table(void)
+{
+    static struct table t;
+    float matrix[12];
+    uint32_t src, dst;
+    for (src = MIXER_MONO; src <= MIXER_SURROUND_714; src++) {
+        for (dst = MIXER_MONO; dst <= MIXER_SURROUND_714; dst++) {
+            if (covers(src, dst)) {
+                add_entry(&t, src, dst);
+            }
+        }
+    }
+    printf("a house table of %zu formats and %zu gains\n", t.pairs_len, t.gains_len);
+    expect("width_matrix", mixer_width_matrix(MIXER_SURROUND_51, MIXER_STEREO, fold_gains, false, AREA(matrix)));
+    rows("from 5.1 to stereo without the table", matrix, 6);
+    expect("width_matrix_with", fold(&t, MIXER_SURROUND_51, MIXER_STEREO, AREA(matrix)));
+    rows("from 5.1 to stereo with the table", matrix, 6);
+    expect("width_matrix_with", fold(&t, MIXER_MONO, MIXER_STEREO, AREA(matrix)));
+    rows("from mono to stereo, which no table covers", matrix, 1);
+    t.pairs_len -= 2;
+    refused("a table without its last entry", fold(&t, MIXER_SURROUND_51, MIXER_STEREO, AREA(matrix)));
+}
+
 int main(void)
 {
     static struct desk d;
@@ -249,5 +329,6 @@ int main(void)
     cue_list(&d, STAGE);
     cue_list(&d, EFFECTS);
     refused("slot 3", mixer_output_sources(d.plan, 3, AREA(d.indices), AREA(d.node_words), AREA(d.steps), AREA(list)).status);
+    house_table();
     return 0;
 }

@@ -23,6 +23,8 @@ const STAGE_LEVEL: u32 = 102;
 const ANNOUNCEMENT_LEVEL: u32 = 103;
 const BOX_IDS: InsertIds = InsertIds { send: 104, ret: 105, dry: 106, wet: 107, dryin: 108, wetin: 109 };
 
+const FOLD_GAINS: FoldGains = FoldGains { pan_left: 0.5, pan_right: 0.5, mono_sum: 0.5, centre: 0.5, surround: 0.5, lfe: 0.0 };
+
 /// A refusal, by its number and place.
 #[derive(Debug)]
 struct Refused(u32, u32);
@@ -34,6 +36,21 @@ impl Status {
             number => Err(Refused(number, self.place)),
         }
     }
+}
+
+fn channels(format: u32) -> usize {
+    unsafe { mixer_format_channels(format) }
+}
+
+/// The fold from one format to another, without a house table.
+fn built_in(src: u32, dst: u32) -> Result<Vec<f32>, Refused> {
+    let mut matrix = vec![0.0; channels(src) * channels(dst)];
+    unsafe { mixer_width_matrix(src, dst, FOLD_GAINS, false, matrix.as_mut_ptr(), matrix.len()) }.result().map(|()| matrix)
+}
+
+/// Whether a house table covers the pair: src has more than two channels, and dst lacks a label of one.
+fn covers(src: u32, dst: u32) -> bool {
+    channels(src) > 2 && (0..channels(src)).any(|c| unsafe { !mixer_format_has(dst, mixer_format_label(src, c)) })
 }
 
 /// The record of a plan and its areas, and the entries of the directory that it is run with.
@@ -73,11 +90,7 @@ impl Desk {
     }
 
     fn weights(&mut self, src: u32, dst: u32) -> Result<Span, Refused> {
-        let gains = FoldGains { pan_left: 0.5, pan_right: 0.5, mono_sum: 0.5, centre: 0.5, surround: 0.5, lfe: 0.0 };
-        let mut matrix = [0.0; 4];
-        let n = unsafe { mixer_format_channels(src) * mixer_format_channels(dst) };
-        unsafe { mixer_width_matrix(src, dst, gains, false, matrix.as_mut_ptr(), matrix.len()) }.result()?;
-        let (v, a) = (&matrix[..n], &mut self.coefficients);
+        let (v, a) = (built_in(src, dst)?, &mut self.coefficients);
         let r = unsafe { mixer_coefficients(self.plan, v.as_ptr(), v.len(), a.as_mut_ptr(), a.len()) };
         r.status.result()?;
         self.plan = r.plan;
@@ -226,12 +239,16 @@ fn build() -> Result<Desk, Refused> {
     Ok(d)
 }
 
+fn line(name: &str, values: &[f32]) {
+    let text: String = values.iter().map(|x| format!(" {x:.5}")).collect();
+    println!("  {name:<10}{text}");
+}
+
 fn block(d: &mut Desk) -> Result<(), Refused> {
     let mut output = [0.0; CHANNELS * BLOCK];
     println!("block of {} samples", d.run(&mut output)?);
     for (name, samples) in ["effects", "hall left", "hall right", "stage"].iter().zip(output.chunks(BLOCK)) {
-        let text: String = samples.iter().map(|x| format!(" {x:.5}")).collect();
-        println!("  {name:<10}{text}");
+        line(name, samples);
     }
     Ok(())
 }
@@ -268,6 +285,58 @@ fn cue_list(d: &Desk, slot: u32) -> Result<(), Refused> {
     Ok(())
 }
 
+/// A house table: its entries, two formats each, and their gains.
+#[derive(Default)]
+struct Table {
+    pairs: Vec<u32>,
+    gains: Vec<f32>,
+}
+
+impl Table {
+    /// The next entry of the table: the built-in fold, but from 5.1 to stereo the designer's own.
+    fn add(&mut self, src: u32, dst: u32) -> Result<(), Refused> {
+        let own = vec![1.0, 0.0, 0.75, 0.25, 0.375, 0.125, 0.0, 1.0, 0.75, 0.25, 0.125, 0.375];
+        self.pairs.extend([src, dst]);
+        self.gains.extend(if (src, dst) == (SURROUND_51, STEREO) { own } else { built_in(src, dst)? });
+        Ok(())
+    }
+
+    #[rustfmt::skip]
+    fn fold(&self, src: u32, dst: u32) -> Result<Vec<f32>, Refused> {
+        let mut matrix = vec![0.0; channels(src) * channels(dst)];
+        unsafe {
+            mixer_width_matrix_with(src, dst, FOLD_GAINS, false, self.pairs.as_ptr(), self.pairs.len(),
+                self.gains.as_ptr(), self.gains.len(), matrix.as_mut_ptr(), matrix.len())
+        }
+        .result()
+        .map(|()| matrix)
+    }
+}
+
+/// A fold to stereo, a line for each of its rows.
+fn rows(name: &str, matrix: &[f32]) {
+    println!("{name}");
+    let (left, right) = matrix.split_at(matrix.len() / 2);
+    line("left", left);
+    line("right", right);
+}
+
+fn house_table() -> Result<(), Refused> {
+    let mut t = Table::default();
+    for src in MONO..=SURROUND_714 {
+        for dst in (MONO..=SURROUND_714).filter(|dst| covers(src, *dst)) {
+            t.add(src, dst)?;
+        }
+    }
+    println!("a house table of {} formats and {} gains", t.pairs.len(), t.gains.len());
+    rows("from 5.1 to stereo without the table", &built_in(SURROUND_51, STEREO)?);
+    rows("from 5.1 to stereo with the table", &t.fold(SURROUND_51, STEREO)?);
+    rows("from mono to stereo, which no table covers", &t.fold(MONO, STEREO)?);
+    t.pairs.truncate(t.pairs.len() - 2);
+    refused("a table without its last entry", t.fold(SURROUND_51, STEREO));
+    Ok(())
+}
+
 fn main() -> Result<(), Refused> {
     let mut output = [0.0; CHANNELS * BLOCK];
     let mut d = build()?;
@@ -295,5 +364,5 @@ fn main() -> Result<(), Refused> {
     cue_list(&d, STAGE)?;
     cue_list(&d, EFFECTS)?;
     refused("slot 3", d.sources(3));
-    Ok(())
+    house_table()
 }

@@ -95,6 +95,7 @@ pub struct CleanReply {
 }
 
 #[repr(C)]
+#[derive(Clone, Copy)]
 pub struct FoldGains {
     pub pan_left: f64,
     pub pan_right: f64,
@@ -131,7 +132,11 @@ extern "C" {
     pub fn mixer_clean_answer(plan: Plan, indices: *const u32, indices_len: usize, words: *const u32, words_len: usize,
         steps: *const u32, steps_len: usize) -> CleanReply;
     pub fn mixer_format_channels(format: u32) -> usize;
+    pub fn mixer_format_label(format: u32, channel: usize) -> u32;
+    pub fn mixer_format_has(format: u32, label: u32) -> bool;
     pub fn mixer_width_matrix(src: u32, dst: u32, gains: FoldGains, normalise: bool, matrix: *mut f32, len: usize) -> Status;
+    pub fn mixer_width_matrix_with(src: u32, dst: u32, gains: FoldGains, normalise: bool, pairs: *const u32, pairs_len: usize,
+        table_gains: *const f32, table_gains_len: usize, matrix: *mut f32, len: usize) -> Status;
 }
 
 pub const PATCH: u32 = 7;
@@ -141,6 +146,8 @@ pub const SEND: u32 = 1016;
 pub const OUTPUT: u32 = 1072;
 pub const MONO: u32 = 0;
 pub const STEREO: u32 = 1;
+pub const SURROUND_51: u32 = 3;
+pub const SURROUND_714: u32 = 6;
 
 /// The floats and the words of a node in its areas, and the floats of each of its three rows: cur, target and step.
 pub const NODE_FLOATS: usize = 72;
