@@ -1,4 +1,4 @@
-// What was compared, as counts: records by kind at 1 to 24, refused calls by number at 33 to 50, then output samples, the inputs of single
+// What was compared, as counts: records by kind at 1 to 25, refused calls by number at 33 to 53, then output samples, the inputs of single
 // lists, and the slots of calls that list all.
 use crate::data;
 use crate::data::word;
@@ -6,11 +6,11 @@ use crate::kinds;
 
 const REFUSED: u32 = 32;
 
-const SAMPLES: usize = 51;
+const SAMPLES: usize = 54;
 
-const INPUTS: usize = 52;
+const INPUTS: usize = 55;
 
-const SLOTS: usize = 53;
+const SLOTS: usize = 56;
 
 fn add(tally: &mut [u64], i: usize, n: u64) {
     if i < tally.len() {
@@ -77,7 +77,7 @@ pub fn report(tally: &[u64]) {
     text::put(b"records compared, by call:\n");
     lines(tally, 0, kinds::TO_F32);
     text::put(b"refused calls, by number:\n");
-    lines(tally, REFUSED, REFUSED + 18);
+    lines(tally, REFUSED, REFUSED + 21);
     text::whole(at(tally, SAMPLES));
     text::put(b" output samples, ");
     text::whole(at(tally, INPUTS));

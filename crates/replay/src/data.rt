@@ -54,6 +54,11 @@ pub fn areas_of(record: &[u32], n: u32) -> &[u32] {
     part(record, AREAS, 2 * (n as usize))
 }
 
+// The numbers of a record that has n areas.
+pub fn numbers_of(record: &[u32], n: u8) -> &[u32] {
+    part(record, AREAS + 2 * (n as usize), record.len())
+}
+
 // Area i of a record.
 pub fn area<'a>(words: &'a [u32], record: &[u32], i: u8) -> &'a [u32] {
     let at = AREAS + 2 * (i as usize);

@@ -11,7 +11,7 @@ const TEXT: usize = 1024;
 
 const MAGIC: u32 = 0x5245_504c;
 
-const VERSION: u32 = 4;
+const VERSION: u32 = 5;
 
 fn wide(n: u8) -> u32 {
     n as u32
@@ -81,10 +81,10 @@ fn records_of(words: &[u32]) {
 }
 
 // Room for the words of the longest file. The `ensures` gives only the length, so that no proof looks at the zeros.
-fn room() -> [u32; 262144]
-    ensures { λ r. ⌜ 262144 ≡ length r ⌝ }
+fn room() -> [u32; 294912]
+    ensures { λ r. ⌜ 294912 ≡ length r ⌝ }
 {
-    [0; 262144]
+    [0; 294912]
 }
 
 // Runs the records of a file and writes what came of it.

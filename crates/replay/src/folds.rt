@@ -84,24 +84,26 @@ pub fn stereo_matrix(record: &[u32]) -> bool {
     }
 }
 
-fn gains_of(record: &[u32]) -> FoldGains {
+// The six gains among the numbers of a fold.
+pub fn gains_of(numbers: &[u32]) -> FoldGains {
     FoldGains {
-        pan_left: double(record, 12),
-        pan_right: double(record, 14),
-        mono_sum: double(record, 16),
-        centre: double(record, 18),
-        surround: double(record, 20),
-        lfe: double(record, 22),
+        pan_left: double(numbers, 3),
+        pan_right: double(numbers, 5),
+        mono_sum: double(numbers, 7),
+        centre: double(numbers, 9),
+        surround: double(numbers, 11),
+        lfe: double(numbers, 13),
     }
 }
 
 fn width_in(words: &[u32], record: &[u32], out: &mut [f32]) -> bool {
     areas::load_floats(words, record, 0, out);
+    let numbers = data::numbers_of(record, 2);
     let answer = format_fold::width_matrix(
-        word(record, 9),
-        word(record, 10),
-        gains_of(record),
-        word(record, 11) == 1,
+        word(numbers, 0),
+        word(numbers, 1),
+        gains_of(numbers),
+        word(numbers, 2) == 1,
         out,
     );
     compare::answer(record, answer) && compare::samples_left(b"matrix", words, record, 1, out)

@@ -47,7 +47,9 @@ pub const STEREO_MATRIX: u32 = 22;
 
 pub const WIDTH_MATRIX: u32 = 23;
 
-pub const TO_F32: u32 = 24;
+pub const WIDTH_MATRIX_WITH: u32 = 24;
+
+pub const TO_F32: u32 = 25;
 
 // Writes the name of the call.
 pub fn name(kind: u32) {
@@ -75,6 +77,7 @@ pub fn name(kind: u32) {
         BALANCE_OF => put(b"balance_of"),
         STEREO_MATRIX => put(b"stereo_matrix"),
         WIDTH_MATRIX => put(b"width_matrix"),
+        WIDTH_MATRIX_WITH => put(b"width_matrix_with"),
         _ => put(b"to_f32"),
     }
 }

@@ -11,16 +11,17 @@ mod inserts;
 mod kinds;
 mod records;
 mod runs;
+mod tables;
 mod traces;
 
 ghost use mathlib.Core.Path.{_≡_};
 ghost use lib.ListN.{length};
 
 // Room for the file. The `ensures` gives only the length, so that no proof looks at the zeros.
-fn room() -> [u8; 1048576]
-    ensures { λ r. ⌜ 1048576 ≡ length r ⌝ }
+fn room() -> [u8; 1179648]
+    ensures { λ r. ⌜ 1179648 ≡ length r ⌝ }
 {
-    [0; 1048576]
+    [0; 1179648]
 }
 
 fn read(fd: i32) {

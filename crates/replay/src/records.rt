@@ -8,10 +8,11 @@ use crate::folds;
 use crate::inserts;
 use crate::kinds;
 use crate::runs;
+use crate::tables;
 use crate::traces;
 
 // One more than there are kinds, since they start at 1.
-const KINDS: usize = 25;
+const KINDS: usize = 26;
 
 // How many areas and how many numbers a record of a kind has.
 const AREAS: [u32; KINDS] = [
@@ -39,6 +40,7 @@ const AREAS: [u32; KINDS] = [
     2,
     0,
     2,
+    4,
     0,
 ];
 
@@ -66,6 +68,7 @@ const NUMBERS: [u32; KINDS] = [
     6,
     3,
     12,
+    15,
     15,
     3,
 ];
@@ -143,6 +146,7 @@ fn folded(words: &[u32], record: &[u32], kind: u32) -> bool {
         kinds::BALANCE_OF => folds::balance_of(words, record),
         kinds::STEREO_MATRIX => folds::stereo_matrix(record),
         kinds::WIDTH_MATRIX => folds::width_matrix(words, record),
+        kinds::WIDTH_MATRIX_WITH => tables::width_matrix_with(words, record),
         kinds::TO_F32 => folds::to_f32(record),
         _ => false,
     }

@@ -1,8 +1,9 @@
-//! `oracle folds`: formats, balances, folds and the rounding, by the bits.
+//! `oracle folds`: formats, balances, folds, also with a table (`tabled.rs`), and the rounding, by the bits.
 use crate::judge::{doubles, floats, same, untouched, Fault, Found, Judge};
 use crate::mixer::{self, FoldGains, GainsReply, Status, StereoReply};
 use crate::numbers;
 use crate::rng::Rng;
+use crate::tabled;
 use reference::mix::format::{self, peek, Downmix, Format, Laws, MonoSum, PanLaw};
 use reference::mix::model::Db;
 
@@ -31,7 +32,8 @@ pub fn case(j: &mut Judge, seed: u64) -> Found {
             by_definition(j, src, dst, gains, normalise).map_err(at)?;
         }
     }
-    refused(j, &mut r)
+    refused(j, &mut r)?;
+    tabled::case(j, &mut r)
 }
 
 fn flip(x: &mut f32) {

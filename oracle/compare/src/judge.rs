@@ -1,7 +1,7 @@
 //! Comparison: the first difference ends a run. A planted fault changes what the reference says, so that a run must find it.
 use crate::entries::Tally;
 use crate::mixer::Status;
-use crate::shapes::{Inserts, Pairs, Safes, Shapes};
+use crate::shapes::{Inserts, Pairs, Safes, Shapes, Tables};
 use std::fmt::Debug;
 
 /// The first difference, in words.
@@ -145,6 +145,21 @@ faults! {
     RoundNan: "a number where a rounding gives NaN",
     Label: "a channel's label",
     FoldNumber: "the number of a refused fold",
+    TableBit: "the last bit of a fold by a table's entry",
+    TableTurned: "a table's entry with columns before rows",
+    TableDivided: "a table's entry that normalise divides",
+    TableOffset: "a table's entry found by the entries before it, not by their gains",
+    TableCovers: "a pair that a table does not cover, though `applies` says so",
+    TableAll: "a table that has to cover all 49 pairs",
+    TableStray: "a table whose last odd number is an entry's source",
+    TableRest: "a table that is refused for a gain behind those of its entries",
+    TableMinusZero: "a table that is taken with a gain of −0",
+    TableFirst: "a table's format that is found before a short area for the matrix",
+    TableOrder: "a pair not to be covered that is found before a pair twice",
+    TableNumber: "the number of a refused fold with a table",
+    TableKept: "a bit of the matrix's area after a refused fold with a table",
+    TablePairs: "a number of a table's pairs after a fold",
+    TableGains: "a bit of a table's gains after a fold",
     DamagedNumber: "the number of a damaged plan's refusal",
     DamagedPlace: "the place of a damaged plan's refusal",
     DamagedTaken: "a damaged plan that is taken",
@@ -173,10 +188,11 @@ pub struct Counts {
     pub folds: u64,
     pub damaged: u64,
     pub accepted: u64,
-    pub refused: [u64; 19],
+    pub refused: [u64; 22],
     pub shapes: Shapes,
     pub inserts: Inserts,
     pub safes: Safes,
+    pub tables: Tables,
     /// What directories had for the channels of Patches in runs, and for those that were looked up.
     pub patched: Tally,
     pub looked_up: Tally,

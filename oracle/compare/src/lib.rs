@@ -31,6 +31,7 @@ mod recorded_folds;
 mod recorded_inserts;
 mod recorded_refusals;
 mod recorded_safe;
+mod recorded_tables;
 mod refused;
 mod rng;
 mod rust;
@@ -39,6 +40,8 @@ mod signals;
 mod speed;
 mod stopwatch;
 mod strays;
+mod tabled;
+mod tables;
 mod tape;
 mod traced;
 mod twin;
@@ -47,7 +50,7 @@ use judge::{Counts, Found, Judge};
 
 const USAGE: &str = "oracle plans SEED COUNT     COUNT random plans, the first of them of seed SEED, built, set, run, traced and adopted
 oracle damaged SEED COUNT   COUNT good plans, each damaged at every place in turn
-oracle folds SEED COUNT     formats, balances, folds and roundings, COUNT times
+oracle folds SEED COUNT     formats, balances, folds, also with tables, and roundings, COUNT times
 oracle pairs SEED COUNT     COUNT clean plans, each built twice, and two lists of calls for each slot, alike as demand 3 has it
 oracle record FILE          writes a sample of the reference's answers, for the program `replay`
 oracle show SEED            the layout of a plan
@@ -91,6 +94,10 @@ fn print(c: &Counts) {
     let safes: Vec<String> = c.safes.list().iter().map(|(n, what)| format!("{what} {n}")).collect();
     if c.safes.nodes > 0 {
         println!("nodes: {}", safes.join(", "));
+    }
+    let tables: Vec<String> = c.tables.list().iter().map(|(n, what)| format!("{what} {n}")).collect();
+    if c.tables.right > 0 {
+        println!("tables: {}", tables.join(", "));
     }
     for (what, entries) in [("channels of Patches", &c.patched), ("channels looked up", &c.looked_up)] {
         let entries: Vec<String> = entries.list().iter().filter(|e| e.0 > 0).map(|(n, what)| format!("{what} {n}")).collect();

@@ -1,4 +1,4 @@
-//! f64s to try, in and out of their ranges.
+//! f64s to try, in and out of their ranges, and f32s for tables of folds.
 use crate::mixer::FoldGains;
 use crate::rng::Rng;
 
@@ -29,6 +29,28 @@ pub fn any_gains(r: &mut Rng) -> FoldGains {
     }
     all
 }
+
+/// A linear gain of a table, from +0 to 16, its ends and subnormals among them.
+pub fn table_gain(r: &mut Rng) -> f32 {
+    let any = f32::from_bits(r.below(0x4180_0001) as u32);
+    let loud = 16.0 * r.unit().abs();
+    r.pick(&[0.0, 16.0, 1.0, f32::from_bits(1), any, any, loud, loud, loud, loud])
+}
+
+/// What no gain of a table may be: −0, negative, above 16, infinite or a NaN, a signalling one too.
+pub const NO_TABLE_GAINS: [f32; 11] = [
+    -0.0,
+    -f32::from_bits(1),
+    -1.0,
+    f32::from_bits(0x4180_0001),
+    17.0,
+    f32::MAX,
+    f32::INFINITY,
+    f32::NEG_INFINITY,
+    f32::NAN,
+    f32::from_bits(0xffc0_0000),
+    f32::from_bits(0x7f80_0001),
+];
 
 /// Around every power of two that the rounding can see, its spacing and its ties; then anything.
 pub fn roundings(r: &mut Rng) -> Vec<f64> {

@@ -1,6 +1,10 @@
 //! Document 01's checks, written from its words a second time: the first fault in its order answers. Nothing here is taken from the port's code.
 //! Where the words leave room (whose words end where, which nodes are lent), docs/DECISIONS.md, points 1 to 8, 12, is followed. The channel lookup
-//! goes by request C-11, an insert's own tests by request C-12, a node's safe by request C-13.
+//! goes by request C-11, an insert's own tests by request C-12, a node's safe by request C-13, a fold with a table by request C-14 (paper/folds.rs).
+mod folds;
+
+pub use folds::{own_fault, width_with};
+
 use crate::judge::Fault;
 use crate::mixer::{InsertPoint, Plan, Span, Status};
 use crate::plan::{Areas, Step, FLOATS, ID, LEFT, LEN, SAFE, VALUES, WORDS};

@@ -82,7 +82,7 @@ fn balance(c: &mut Case, r: &mut Rng, b: f64) {
     }
 }
 
-fn numbers_of(src: u32, dst: u32, g: &FoldGains, normalise: bool) -> Vec<u32> {
+pub fn numbers_of(src: u32, dst: u32, g: &FoldGains, normalise: bool) -> Vec<u32> {
     let gains = [g.pan_left, g.pan_right, g.mono_sum, g.centre, g.surround, g.lfe];
     [src, dst, normalise as u32].into_iter().chain(gains.into_iter().flat_map(double)).collect()
 }

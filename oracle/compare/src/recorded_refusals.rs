@@ -32,6 +32,7 @@ pub const REFUSALS: &[(Kind, &[u32])] = &[
     (Kind::BalanceOf, &[16, 17, 2]),
     (Kind::StereoMatrix, &[17]),
     (Kind::WidthMatrix, &[16, 17, 2]),
+    (Kind::WidthMatrixWith, &[16, 17, 2, 19, 20, 21]),
 ];
 
 /// Calls of every kind, those that are refused.

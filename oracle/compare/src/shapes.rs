@@ -6,7 +6,9 @@ use crate::inserts::ids;
 use crate::judge::Fault;
 use crate::mixer::{InsertPoint, Plan, Span, Status};
 use crate::ops::Input;
+use crate::paper::{own_fault, Answer};
 use crate::plan::{Areas, Layout, Step, ID, LEFT, VALUES};
+use crate::tables::{covered, Asked, Order, Table};
 
 macro_rules! counted {
     ($type:ident { $($name:ident: $text:literal,)* }) => {
@@ -117,6 +119,31 @@ counted! {
 }
 
 counted! {
+    Tables {
+        right: "right ones",
+        reverse: "in reverse",
+        shuffled: "shuffled",
+        stray: "with a last odd number",
+        rest: "with gains behind those of their entries",
+        entries: "folds by an entry",
+        divided: "with normalise, where a row's sum is above 1",
+        built_in: "by the built-in fold",
+        own_16: "refused for the fold's own 16",
+        own_17: "17",
+        own_2: "2",
+        table_16: "for the table's 16",
+        table_2: "2",
+        table_17: "17",
+        table_19: "19",
+        table_20: "20",
+        table_21: "21",
+        several: "with several chosen faults",
+        damaged: "damaged at random",
+        damaged_taken: "of these taken",
+    }
+}
+
+counted! {
     Pairs {
         pairs: "all",
         other_blocks: "two different blocks",
@@ -194,6 +221,34 @@ impl Safes {
             Fault::UnreadNew => self.new_14 += 1,
             Fault::UnreadOld => self.old_14 += 1,
             _ => self.damaged_14 += 1,
+        }
+    }
+}
+
+impl Tables {
+    pub fn right(&mut self, order: Order, t: &Table) {
+        self.right += 1;
+        self.reverse += (order == Order::Reverse) as u64;
+        self.shuffled += (order == Order::Shuffled) as u64;
+        self.stray += t.stray.is_some() as u64;
+        self.rest += !t.rest.is_empty() as u64;
+    }
+
+    pub fn answer(&mut self, a: &Asked, answer: &Answer<Vec<f32>>) {
+        let own = own_fault(a).is_err();
+        match answer {
+            Ok(matrix) if covered([a.src, a.dst]) => {
+                let loud = matrix.chunks(channels(a.src)).any(|row| row.iter().sum::<f32>() > 1.0);
+                self.entries += 1;
+                self.divided += (a.normalise && loud) as u64;
+            }
+            Ok(_) => self.built_in += 1,
+            Err(Status { number: 16, .. }) => *if own { &mut self.own_16 } else { &mut self.table_16 } += 1,
+            Err(Status { number: 17, .. }) => *if own { &mut self.own_17 } else { &mut self.table_17 } += 1,
+            Err(Status { number: 2, .. }) => *if own { &mut self.own_2 } else { &mut self.table_2 } += 1,
+            Err(Status { number: 19, .. }) => self.table_19 += 1,
+            Err(Status { number: 20, .. }) => self.table_20 += 1,
+            Err(_) => self.table_21 += 1,
         }
     }
 }

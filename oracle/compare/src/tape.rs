@@ -5,7 +5,7 @@ use std::collections::HashMap;
 /// The text at the front of the file has this many bytes.
 pub const TEXT: usize = 1024;
 const MAGIC: u32 = 0x5245_504c;
-const VERSION: u32 = 4;
+const VERSION: u32 = 5;
 /// Words before the areas: magic, version, words in all, records, and the word at which the records start.
 const HEADER: usize = 5;
 /// Words before the areas of a record: kind, length, the refusal, and how many areas.
@@ -39,6 +39,7 @@ pub enum Kind {
     BalanceOf,
     StereoMatrix,
     WidthMatrix,
+    WidthMatrixWith,
     ToF32,
 }
 

@@ -87,8 +87,8 @@ pub mod compile {
     }
 }
 
-/// Of downmix.rs only which pairs of formats a named setting maps. Stand-in: named settings are out of scope. None can be made, so `width_matrix`
-/// never takes that way, and never asks.
+/// Of downmix.rs only which pairs of formats a named setting maps, which are those that a table of folds covers. Stand-in: named settings are out of
+/// scope. None can be made, so `width_matrix` never takes that way, and never asks.
 pub mod downmix {
     use super::format::Format;
 

@@ -4,7 +4,7 @@ use Rattle.replay.proofs.file.room.Statement.{statement}
 use Rattle.replay.proofs.file.room.Tie as tie
 
 returns : tie.Need-returns
-returns c = zeros 262144
+returns c = zeros 294912
 
 pub room-spec : {M : Type 1} → statement M
 room-spec = tie.close (tie.spec returns)
