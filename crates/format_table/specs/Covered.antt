@@ -17,7 +17,8 @@ unfolding has
 lacks d [] = false
 lacks d (l ∷ ls) = not (has d l) || lacks d ls
 
--- The Rust's words: not from mono, nor from stereo to mono, and some label of src that dst lacks.
+-- The Rust's words: not from mono, nor from stereo to mono, and some label of src that dst lacks. It is asked of formats alone: what is none is refused
+-- before.
 unfoldable pub applies : ℕ → ℕ → Bool
 unfolding labels lacks
 applies src dst = not (eqb src mono || (eqb src stereo && eqb dst mono)) && lacks dst (labels src)
