@@ -15,6 +15,17 @@ pub lacks-listed : (d : ℕ) → Listed (lacks d) (λ l. not (has d l))
 unfolding lacks
 lacks-listed d = record { none = refl; more = λ l ls. refl }
 
+-- ---- the pair from s to d has the number s * 7 + d
+
+module _ (s d : ℕ) (hs : s < 7) (hd : d < 7) where
+  pub source-of : (s * 7 + d) / 7 ≡ s
+  source-of = omega arith
+
+  pub destination-of : (s * 7 + d) % 7 ≡ d
+  destination-of = omega arith
+
+-- ---- the 24 pairs
+
 abbrev yes : Bool
 yes = true
 
@@ -33,7 +44,7 @@ coveredRows =
     ∷ (yes ∷ yes ∷ yes ∷ yes ∷ yes ∷ yes ∷ no ∷ [])
     ∷ []
 
-abbrev inRows : ℕ → ℕ → Bool
+abbrev pub inRows : ℕ → ℕ → Bool
 inRows s d = getD (getD coveredRows s []) d no
 
 abbrev same : Bool → Bool → Bool
@@ -56,8 +67,6 @@ all-agree = tt
 -- the rows are `applies`
 pub applies-rows : (s d : ℕ) → s < 7 → d < 7 → applies s d ≡ inRows s d
 applies-rows s d hs hd =
-    let q : (s * 7 + d) / 7 ≡ s = omega arith in
-    let r : (s * 7 + d) % 7 ≡ d = omega arith in
     same-is (applies s d) (inRows s d)
-    (subst (λ (i : ℕ). T (same (applies i d) (inRows i d))) q
-    (subst (λ (j : ℕ). T (same (applies ((s * 7 + d) / 7) j) (inRows ((s * 7 + d) / 7) j))) r (below-at agree 49 all-agree (s * 7 + d) (omega arith))))
+    (subst (λ (i : ℕ). T (same (applies i d) (inRows i d))) (source-of s d hs hd)
+    (subst (λ (j : ℕ). T (same (applies ((s * 7 + d) / 7) j) (inRows ((s * 7 + d) / 7) j))) (destination-of s d hs hd) (below-at agree 49 all-agree (s * 7 + d) (omega arith))))

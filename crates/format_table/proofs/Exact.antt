@@ -1,6 +1,6 @@
 -- A table is accepted exactly where it is sound, condition by condition. Assumes nothing.
 use mathlib.Core.Path.{_≡_, refl, sym, ap, _∙_}
-use mathlib.Core.Bool.{Bool, true, false, not, _&&_}
+use mathlib.Core.Bool.{Bool, true, false, not, _&&_, cond}
 use mathlib.Core.List.{List}
 use Prim.Native.Nat.{ℕ, _+_, _*_, _/_, _%_, _<_, _≤_}
 use native.Mathlib.Omega.{arith}
@@ -16,6 +16,7 @@ use Rattle.format.specs.Formats.{unknownFormat}
 use Rattle.format_table.specs.Covered.{applies}
 use Rattle.format_table.specs.Tables.{entries, sourceAt, destinationAt, times, needed, someUnknown, someOutside, somePair, missing, twice, uncovered, allPairs, tableTests, tableAnswer}
 use Rattle.format_table.specs.Sound.{TableSound}
+use Rattle.format_table.proofs.Covered.{source-of, destination-of}
 use Rattle.format_table.proofs.Tables.{unknown-counted, outside-counted}
 use Rattle.format_table.proofs.Faults.{pair-counted}
 use Rattle.format_table.proofs.Answers.{table-passes}
@@ -31,9 +32,8 @@ known pairs e k h =
 module _ (t : ℕ → ℕ → Bool) where
   pub each-pair : somePair t allPairs ≡ false → (s d : ℕ) → s < 7 → d < 7 → t s d ≡ false
   each-pair e s d hs hd =
-      let q : (s * 7 + d) / 7 ≡ s = omega arith in
-      let r : (s * 7 + d) % 7 ≡ d = omega arith in
-      ap (λ (i : ℕ). t i d) (sym q) ∙ ap (t ((s * 7 + d) / 7)) (sym r) ∙ counted-at (pair-counted t) allPairs e (s * 7 + d) (omega arith)
+      ap (λ (i : ℕ). t i d) (sym (source-of s d hs hd)) ∙ ap (t ((s * 7 + d) / 7)) (sym (destination-of s d hs hd))
+      ∙ counted-at (pair-counted t) allPairs e (s * 7 + d) (omega arith)
 
   pub no-pair : ((s d : ℕ) → s < 7 → d < 7 → t s d ≡ false) → somePair t allPairs ≡ false
   no-pair all = counted-none (pair-counted t) allPairs (λ k h. all (k / 7) (k % 7) (omega arith) (omega arith))
@@ -48,6 +48,18 @@ not-missing a t e h = let n : eqb t 0 ≡ false = ap (λ (b : Bool). b && eqb t 
 
 not-uncovered : (a : Bool) (t : ℕ) → a ≡ false → (not a && ltb 0 t) ≡ false → t ≡ 0
 not-uncovered a t e h = let n : ltb 0 t ≡ false = ap (λ (b : Bool). not b && ltb 0 t) (sym e) ∙ h in omega (arith, ltb-false 0 t n)
+
+never-missing : (c : Bool) → (c && eqb (cond c 1 0) 0) ≡ false
+never-missing true = refl
+never-missing false = refl
+
+never-twice : (c : Bool) → ltb 1 (cond c 1 0) ≡ false
+never-twice true = refl
+never-twice false = refl
+
+never-uncovered : (c : Bool) → (not c && ltb 0 (cond c 1 0)) ≡ false
+never-uncovered true = refl
+never-uncovered false = refl
 
 module _ (pairs : List ℕ) (gains : List Float) where
   pub table-sound : tableAnswer pairs gains ≡ Accepted → TableSound pairs gains
@@ -74,17 +86,20 @@ module _ (pairs : List ℕ) (gains : List Float) where
     all-in-range : someOutside gains (needed pairs (entries pairs)) ≡ false
     all-in-range = counted-none (outside-counted gains) (needed pairs (entries pairs)) (λ i h. ap not (s .inRange i h))
 
-    -- a test of a pair by how many entries it has
-    by-cover : (t : Bool → ℕ → Bool) → t true 1 ≡ false → t false 0 ≡ false → (a b : ℕ) → a < 7 → b < 7 → t (applies a b) (times pairs a b (entries pairs)) ≡ false
-    by-cover t y n a b ha hb = go (applies a b) refl
+    -- one entry where the pair is to be covered, and none where it is not
+    pub one-each : (a b : ℕ) → a < 7 → b < 7 → times pairs a b (entries pairs) ≡ cond (applies a b) 1 0
+    one-each a b ha hb = go (applies a b) refl
       where
-        go : (c : Bool) → applies a b ≡ c → t (applies a b) (times pairs a b (entries pairs)) ≡ false
-        go true e = ap (λ (c : Bool). t c (times pairs a b (entries pairs))) e ∙ ap (t true) (s .covered a b ha hb e) ∙ y
-        go false e = ap (λ (c : Bool). t c (times pairs a b (entries pairs))) e ∙ ap (t false) (s .others a b ha hb e) ∙ n
+        go : (c : Bool) → applies a b ≡ c → times pairs a b (entries pairs) ≡ cond c 1 0
+        go true e = s .covered a b ha hb e
+        go false e = s .others a b ha hb e
+
+    by-cover : (t : Bool → ℕ → Bool) → ((c : Bool) → t c (cond c 1 0) ≡ false) → (a b : ℕ) → a < 7 → b < 7 → t (applies a b) (times pairs a b (entries pairs)) ≡ false
+    by-cover t n a b ha hb = ap (t (applies a b)) (one-each a b ha hb) ∙ n (applies a b)
 
     pub sound-accepted : tableAnswer pairs gains ≡ Accepted
     sound-accepted =
         table-passes pairs gains all-known (s .enough) all-in-range
-        (no-pair (missing pairs) (by-cover (λ a n. a && eqb n 0) refl refl))
-        (no-pair (twice pairs) (by-cover (λ a n. ltb 1 n) refl refl))
-        (no-pair (uncovered pairs) (by-cover (λ a n. not a && ltb 0 n) refl refl))
+        (no-pair (missing pairs) (by-cover (λ c n. c && eqb n 0) never-missing))
+        (no-pair (twice pairs) (by-cover (λ c n. ltb 1 n) never-twice))
+        (no-pair (uncovered pairs) (by-cover (λ c n. not c && ltb 0 n) never-uncovered))

@@ -1,11 +1,12 @@
 -- Worked examples of a house table, by computation: one that is accepted, an odd last number, where an entry's gains are, and the order of the
 -- refusals. Assumes nothing.
-use mathlib.Core.Path.{_≡_, refl, ap}
+use mathlib.Core.Path.{_≡_, refl, sym, ap}
 use mathlib.Core.Bool.{true, not}
 use mathlib.Core.List.{List, [], _∷_, _++_}
 use Prim.Native.Nat.{ℕ, _<_, _≤_}
+use native.Mathlib.Nat.{le-of-eq}
 use native.Mathlib.Omega.{arith}
-use lib.ListN.{length, getD}
+use lib.ListN.{length, getD, replicate, length-replicate, getD-replicate}
 use lib.Ieee.{Float, nan, binary32, lt, eq, le, ofBits}
 use Rattle.lists.specs.Parts.{part}
 use Rattle.lists.proofs.Scans.{counted-none}
@@ -19,6 +20,12 @@ use Rattle.format_table.specs.Tables.{times, needed, entryBelow, tableEn
 use Rattle.format_table.specs.With.{withAnswer}
 use Rattle.format_table.proofs.Tables.{outside-counted}
 use Rattle.format_table.proofs.Answers.{table-19, table-20, table-21, table-passes}
+
+abbrev minusZero : Float
+minusZero = ofBits binary32 0x8000_0000
+
+abbrev half : Float
+half = ofBits binary32 0x3f00_0000
 
 -- ---- the 24 pairs in the order of their numbers, with any 1,021 gains in range
 
@@ -60,18 +67,19 @@ module _ (gains : List Float) where
   unfolding tableEntry entryBelow needed channels labels
   second-entry = refl
 
+-- so there is one
+pub house-of-halves : tableAnswer house (replicate 1021 half) ≡ Accepted
+unfolding gainInRange negative le lt eq ofBits
+house-of-halves =
+    house-accepted (replicate 1021 half) (le-of-eq (sym (length-replicate 1021 half)))
+    (λ i h. ap gainInRange (getD-replicate 1021 i half nan h))
+
 -- row by row: the right channel's share of the left is the fourth gain
 pub right-from-left : (a b c d e f : Float) → getD (tableEntry (2 ∷ 1 ∷ []) (a ∷ b ∷ c ∷ d ∷ e ∷ f ∷ []) 2 1) 3 nan ≡ d
 unfolding tableEntry entryBelow needed channels labels
 right-from-left a b c d e f = refl
 
 -- ---- the first fault answers: a format above 6, too few gains, a gain out of range, a pair without an entry
-
-abbrev minusZero : Float
-minusZero = ofBits binary32 0x8000_0000
-
-abbrev half : Float
-half = ofBits binary32 0x3f00_0000
 
 pub first-16 : tableAnswer (2 ∷ 7 ∷ 2 ∷ 0 ∷ []) [] ≡ Refused (refusal 16 0)
 unfolding tableAnswer someUnknown

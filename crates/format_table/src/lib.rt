@@ -22,7 +22,7 @@ pub fn width_matrix_with(
     out: &mut [f32],
 ) -> Answer
     ensures answer { λ r. ⌜ r ≡ withAnswer src dst gains (length (now (out .entry))) (now (pairs .entry)) (now («table_gains» .entry)) ⌝ }
-    ensures out { λ r. ⌜ now (out .exit) ≡ withArea src dst gains normalise (now (pairs .entry)) (now («table_gains» .entry)) (now (out .entry)) ⌝ }
+    ensures out { λ _. ⌜ now (out .exit) ≡ withArea src dst gains normalise (now (pairs .entry)) (now («table_gains» .entry)) (now (out .entry)) ⌝ }
 {
     let own = format_fold::width_answer(src, dst, gains, out.len());
     let Answer::Accepted = own else {

@@ -50,8 +50,9 @@ fn lacks_label(src: u32, dst: u32) -> bool
 pub fn applies(src: u32, dst: u32) -> bool
     ensures { λ r. ⌜ r ≡ applies src dst ⌝ }
 {
-    let own = (src == Format::MONO) | ((src == Format::STEREO) & (dst == Format::MONO));
-    !own & lacks_label(src, dst)
+    // the pan of a mono signal, and the mono sum of a stereo one
+    let panned = (src == Format::MONO) | ((src == Format::STEREO) & (dst == Format::MONO));
+    !panned & lacks_label(src, dst)
 }
 
 // The pairs seen, and pair k once more. Requires a pair.

@@ -38,6 +38,18 @@ pub and-intro : (a b : Bool) → a ≡ true → b ≡ true → (a && b) ≡ true
 and-intro true b e f = f
 and-intro false b e f = absurd (false≢true e)
 
+pub and-true : (b : Bool) → (b && true) ≡ b
+and-true true = refl
+and-true false = refl
+
+pub and-false : (b : Bool) → (b && false) ≡ false
+and-false true = refl
+and-false false = refl
+
+pub or-false : (b : Bool) → (b || false) ≡ b
+or-false true = refl
+or-false false = refl
+
 -- two tests, neither of which is met
 pub first-not : (a b : Bool) → not a && not b ≡ true → a ≡ false
 first-not true b e = absurd (false≢true e)

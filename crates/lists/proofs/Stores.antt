@@ -92,6 +92,10 @@ module _ {A : Type 0} where
       rw (sets-eq vs l k h)
       (take-at (take k l ++ vs) (drop (k + length vs) l) (k + length vs) (length-append (take k l) vs ∙ ap (λ (n : ℕ). n + length vs) (length-take-le k l (omega arith))))
 
+  -- stores from the front on
+  pub sets-front : (l vs : List A) → length vs ≤ length l → sets l 0 vs ≡ vs ++ drop (length vs) l
+  sets-front l vs h = sets-eq vs l 0 (omega arith) ∙ ap (λ (k : ℕ). vs ++ drop k l) (zero-add (length vs))
+
   -- ---- a part before the stores, after them, and just where they are
   part-swap : (k n : ℕ) (l : List A) → take n (drop k l) ≡ drop k (take (k + n) l)
   part-swap zero n l = rw zero-add

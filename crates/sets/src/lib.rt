@@ -1,5 +1,5 @@
-// Sets of numbers below 256, in the place of the Rust's `BTreeSet`: the inputs behind a buffer, which are document 01's source sets, and the
-// buffers of a span.
+// Sets of numbers below 256, in the place of the Rust's `BTreeSet`: the inputs behind a buffer, which are document 01's source sets, the buffers of
+// a span, and the pairs of formats of a house table.
 // All of it is for the crates above and not the interface: a function that has a `requires` says in its comment what it takes.
 ghost use mathlib.Core.Path.{_≡_};
 ghost use mathlib.Core.Bool.{false, _||_};

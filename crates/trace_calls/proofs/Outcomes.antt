@@ -4,13 +4,12 @@ use mathlib.Core.Path.{_≡_, sym, ap, _∙_}
 use mathlib.Core.Bool.{Bool, true, false, _||_, cond}
 use mathlib.Core.List.{List, [], _++_}
 use Prim.Native.Nat.{ℕ, _*_, _≤_, _<_}
-use native.Mathlib.Nat.{zero-add}
-use native.Mathlib.Omega.{arith}
 use lib.Dec.{ltb}
 use lib.ListN.{length, drop, take}
-use lib.Seq.{sets, sets-eq, length-take-le}
+use lib.Seq.{sets, length-take-le}
 use borrow.Author.Tests.{ltb-false, lt-ltb, le-ltb, le-leb, lt-leb}
 use Rattle.lists.proofs.Bools.{or-none}
+use Rattle.lists.proofs.Stores.{sets-front}
 use Rattle.refusal.specs.Numbers.{shortArea, noSlot}
 use Rattle.refusal.specs.Tests.{refusal, Test, first}
 use Rattle.refusal.specs.declared.Refusal.{Refusal}
@@ -86,16 +85,13 @@ module _ (p : Plan) (slot : ℕ) (indices words steps area : List ℕ) where
   refused r q e g = (ap sources.Refused g ∙ sym (outcome-refused answer _ sources.Refused r e), sym (refused-keeps answer _ area r e))
 
   module _ (set : Set) (m : members set ≡ sourceList slot xs) where
-    front : length (members set) ≤ length area → members set ++ drop (length (members set)) area ≡ sets area 0 (members set)
-    front h = sym (sets-eq (members set) area 0 (omega arith) ∙ rw zero-add)
-
     pub listed : (count : ℕ) (last : List ℕ) → answer ≡ Accepted → count ≡ length (members set) → length (members set) ≤ length area
         → last ≡ members set ++ drop (length (members set)) area
         → (sources.Listed count ≡ sourcesAnswer p slot indices words steps (length area)) × (last ≡ sourcesArea p slot indices words steps area)
     unfolding sourcesAnswer sourcesArea
     listed count last e k h l = (
       ap sources.Listed (k ∙ ap length m) ∙ sym (outcome-accepted answer _ sources.Refused e),
-      l ∙ front h ∙ ap (sets area 0) m ∙ sym (outcome-accepted answer _ (λ _. area) e),
+      l ∙ sym (sets-front area (members set) h) ∙ ap (sets area 0) m ∙ sym (outcome-accepted answer _ (λ _. area) e),
     )
 
 -- ---- `all_sources`

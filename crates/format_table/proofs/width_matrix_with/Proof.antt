@@ -2,12 +2,12 @@
 use mathlib.Core.Path.{_≡_, sym, ap, _∙_}
 use mathlib.Core.List.{List, _++_}
 use Prim.Native.Nat.{ℕ, _*_, _≤_}
-use native.Mathlib.Nat.{zero-add}
 use native.Mathlib.Omega.{arith}
 use borrow.Author.Needs.{needs}
 use lib.ListN.{length, drop}
-use lib.Seq.{sets, sets-eq}
+use lib.Seq.{sets}
 use lib.Ieee.{Float}
+use Rattle.lists.proofs.Stores.{sets-front}
 use Rattle.refusal.specs.declared.Answer.the-variants.{Accepted}
 use Rattle.format.specs.Formats.{channels}
 use Rattle.format_fold.specs.Width.{widthAnswer}
@@ -21,9 +21,9 @@ use Rattle.format_table.proofs.With.{own-refused, own-accepted, with-re
 use Rattle.format_table.proofs.width_matrix_with.Statement.{statement}
 use Rattle.format_table.proofs.width_matrix_with.Tie as tie
 
--- stores from the front on
-put-front : (l vs : List Float) (n : ℕ) → length vs ≡ n → n ≤ length l → sets l 0 vs ≡ vs ++ drop n l
-put-front l vs n e h = sets-eq vs l 0 (omega arith) ∙ ap (λ (k : ℕ). vs ++ drop k l) (zero-add (length vs) ∙ e)
+-- the entry at the front of the area
+front : (l vs : List Float) (n : ℕ) → length vs ≡ n → n ≤ length l → sets l 0 vs ≡ vs ++ drop n l
+front l vs n e h = sets-front l vs (omega arith) ∙ ap (λ (k : ℕ). vs ++ drop k l) e
 
 -- ---- what is known where both answers are accepted
 
@@ -119,7 +119,7 @@ returns-3 c =
     let y = sym (f .before .before .applies .ensures) ∙ f .before .if1 .taken in (
       sym r,
       p .put-floats .ensures
-          ∙ put-front (a .out .now) (f .find-entry .result .now) (channels (a .dst) * channels (a .src)) (long f) (room o)
+          ∙ front (a .out .now) (f .find-entry .result .now) (channels (a .dst) * channels (a .src)) (long f) (room o)
           ∙ ap (λ (vs : List Float). vs ++ drop (channels (a .dst) * channels (a .src)) (a .out .now)) (f .find-entry .ensures)
           ∙ sym (table-decides (a .src) (a .dst) (a .gains) (a .normalise) (a .pairs .now) (a .table-gains .now) (a .out .now) r y),
     )

@@ -5,6 +5,7 @@ use Prim.Native.Nat.{ℕ}
 use borrow.Author.Tests.{eqb-true}
 use borrow.Author.Needs.{needs}
 use lib.Dec.{eqb}
+use Rattle.lists.proofs.Bools.{and-true, and-false, or-false}
 use Rattle.sets.specs.declared.Set.{Set}
 use Rattle.sets.specs.Sets.{member}
 use Rattle.format_table.proofs.pairs.with_pair.Statement.{statement}
@@ -17,18 +18,6 @@ one-of s j k b h = go (eqb j k) refl
     go : (t : Bool) → eqb j k ≡ t → (t && member s j) ≡ (t && b)
     go true e = ap (member s) (eqb-true j k e) ∙ h
     go false e = refl
-
-and-yes : (b : Bool) → (b && true) ≡ b
-and-yes true = refl
-and-yes false = refl
-
-and-no : (b : Bool) → (b && false) ≡ false
-and-no true = refl
-and-no false = refl
-
-or-no : (b : Bool) → (b || false) ≡ b
-or-no true = refl
-or-no false = refl
 
 has-requires : tie.Need-has-requires
 has-requires c κs = search needs
@@ -46,7 +35,7 @@ returns c =
       c .before .with .ensures,
       λ j.
           c .with2 .ensures j
-          ∙ ap (λ (b : Bool). member (a .seen .twice) j || b) (sym (one-of (a .seen .once) j (a .k) true (sym (h .has .ensures) ∙ c .before .before .if1 .taken) ∙ and-yes (eqb j (a .k)))),
+          ∙ ap (λ (b : Bool). member (a .seen .twice) j || b) (sym (one-of (a .seen .once) j (a .k) true (sym (h .has .ensures) ∙ c .before .before .if1 .taken) ∙ and-true (eqb j (a .k)))),
     )
 
 with-requires-3 : tie.Need-with-requires-3
@@ -58,8 +47,8 @@ returns-2 c =
     let a = h .before .before .before .args in (
       c .with3 .ensures,
       λ j.
-          sym (or-no (member (a .seen .twice) j))
-          ∙ ap (λ (b : Bool). member (a .seen .twice) j || b) (sym (one-of (a .seen .once) j (a .k) false (sym (h .has .ensures) ∙ c .before .if1 .left) ∙ and-no (eqb j (a .k)))),
+          sym (or-false (member (a .seen .twice) j))
+          ∙ ap (λ (b : Bool). member (a .seen .twice) j || b) (sym (one-of (a .seen .once) j (a .k) false (sym (h .has .ensures) ∙ c .before .if1 .left) ∙ and-false (eqb j (a .k)))),
     )
 
 pub with-pair-spec : {M : Type 1} → statement M
