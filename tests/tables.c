@@ -133,7 +133,7 @@ static void own_gains(void)
     }
 }
 
-/* A table of the built-in folds, normalised or not, folds as there is none. */
+/* A table of the built-in folds, normalised or not, folds as if there were none. */
 static void built_in(bool normalise)
 {
     const mixer_fold_gains gains = asked(0, 0).gains;

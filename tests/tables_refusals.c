@@ -279,7 +279,7 @@ static void many_answer(size_t pairs_len, size_t gains_len, uint32_t number)
     REFUSED(mixer_width_matrix_with(f.src, f.dst, f.gains, true, many_pairs, pairs_len, many_gains, gains_len, matrix, f.matrix_len), number, 0);
 }
 
-/* The lists have no limit, and each of their faults is found at their end. */
+/* The lists have no limit: 16, 2 and 17 are found at their end, and 20 behind a whole table. */
 static void long_lists(void)
 {
     memcpy(many_pairs, covered, sizeof covered);

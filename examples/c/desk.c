@@ -1,7 +1,7 @@
 /* A small layout over the mixer's C interface: a microphone and a stereo band into the hall (slot 0), the microphone alone to the stage (slot 1).
  * On its way to the hall the microphone has an insert: it goes to an effects box (slot 2), and what the box sends back can be heard in its place.
  * Emergency announcements go to the hall too, at a gain that no new layout takes over from an old one. In the end a sound designer's own fold from
- * 5.1 to stereo, in a house table. */
+ * 5.1 to stereo is taken from a house table. */
 #include <stdio.h>
 #include <stdlib.h>
 #include <string.h>

@@ -212,14 +212,14 @@ fn rounds(c: &mut Case, g: &mut Gen, h: &mut Held) {
 fn text(r: &Recorder) -> String {
     format!(
         "Answers of the Rust mixer (commit f575066b19) to calls of the plan engine, inserts and folds, for `replay`.
-Made by `oracle record FILE` (oracle/README.md): the same bytes each time.
-Plans are of {} of the seeds 1 to {SEEDS}: where a branch is reached that fewer than {TIMES} cases had, and one at every limit.
+Made by `oracle record FILE`: the same bytes each time.
+Plans are those of {} of the seeds 1 to {SEEDS}: where a branch is reached that fewer than {TIMES} cases had, and one at every limit.
 Samples, nodes, buffers, lists, balances, roundings and folds by its laws are the Rust's. What it lacks is the oracle's: refusals, the check and
 the clean answer by document 01, lookups by C-11, inserts' tests by C-12, safe by C-13, tables by C-14, other folds by rules.
 
 After this text of 1,024 bytes: u32 words, the lowest byte first. Words 0 to 4: 5245504C (hex), version 5, words in all, records,
 where the records start; before that the areas. A record: kind, length in words, refusal's number and place (0: accepted),
-how many areas, start and length of each, then its numbers (crates/replay/src has each kind's).
+how many areas, start and length of each in words, then its numbers (crates/replay/src has each kind's).
 Floats are their bits, all NaN 7FC00000; f64 and counts are two words, the lower one first.
 ",
         r.plans
