@@ -106,8 +106,7 @@ enum mixer_limit {
  *   indices       uint32_t  a buffer's number each; a span of them is a list of buffers
  *   coefficients  float     the weights of Sends
  *   node_floats   float     72 a node: 24 of cur, 24 of target, 24 of step
- *   node_words    uint32_t  four a node: its id, len (how many of the 24 are in use), left (samples left of its ramp) and safe (0, or 1 for
- *                           mixer_adopt to skip it)
+ *   node_words    uint32_t  four a node: its id, len (how many of the 24 are in use), left (samples left of its ramp), safe (0; 1: mixer_adopt skips it)
  *   steps         uint32_t  the records of the steps, one after the other; `words` counts them
  *   buffers       float     buffer i has the samples from i * block to (i + 1) * block */
 typedef struct {
@@ -379,14 +378,14 @@ mixer_stereo_reply mixer_stereo_matrix(double width, double balance);
  * that is above 1. Refused: 16, 17, 2. */
 mixer_status mixer_width_matrix(uint32_t src, uint32_t dst, mixer_fold_gains gains, bool normalise, float *matrix, size_t matrix_len);
 
-/* The same with a house table, the sound designer's own folds. It covers the 24 pairs of a source of more than two channels and a destination that lacks
- * one of its labels: LCR to mono and stereo; 5.1 to mono, stereo, LCR, 7.1 and 7.1.4; 7.1 to mono, stereo, LCR, 5.1 and 5.1.4; 5.1.4 and 7.1.4 to every
- * other format. `pairs` has two numbers an entry, the formats of its source and its destination; a last odd one is ignored. `table_gains` has the entries'
- * gains, each from +0 to 16, entry after entry: for each as many as its source has channels times those of its destination, row by row as in `matrix`; the
- * rest is ignored. A table has one entry for each covered pair, in any order, and no other: 48 numbers, or 49, and at least 1,021 gains. The entry of a
- * covered pair goes to `matrix` as it is, whatever `normalise` is; for any other pair `matrix` gets what mixer_width_matrix writes. The whole table is
- * tested for every pair, in time linear in its lengths. Refused: 16, 17, 2 as mixer_width_matrix, for every pair; then of the table 16, 2 (fewer gains
- * than its entries need), 17, 19, 20, 21: where mixer_width_matrix takes the same src, dst, gains and area, a refusal is the table's. */
+/* The same with a house table, the sound designer's own folds. It covers the 24 pairs of a source of more than two channels and a destination that
+ * lacks one of its labels: LCR to mono and stereo; 5.1 to mono, stereo, LCR, 7.1 and 7.1.4; 7.1 to mono, stereo, LCR, 5.1 and 5.1.4; 5.1.4 and 7.1.4 to
+ * every other format. `pairs` has two numbers an entry, its source and its destination; a last odd one is ignored. `table_gains` has their gains, each
+ * from +0 to 16, entry after entry, each entry row by row as `matrix`: the channels of its source times those of its destination; the rest is ignored.
+ * A table has one entry for each covered pair, in any order, and no other: 48 numbers, or 49, and at least 1,021 gains. The entry of a covered pair
+ * goes to `matrix` as it is, whatever `normalise` is; any other pair gets what mixer_width_matrix writes. The table is tested for every pair, in time
+ * linear in its lengths. Refused: 16, 17, 2 as mixer_width_matrix; then of the table 16, 2 (fewer gains than its entries need), 17, 19, 20, 21. Where
+ * mixer_width_matrix takes the same src, dst, gains and area, a refusal is the table's. */
 mixer_status mixer_width_matrix_with(uint32_t src, uint32_t dst, mixer_fold_gains gains, bool normalise, const uint32_t *pairs,
                                      size_t pairs_len, const float *table_gains, size_t table_gains_len, float *matrix, size_t matrix_len);
 
