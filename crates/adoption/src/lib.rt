@@ -1,4 +1,6 @@
 // Old nodes into a new plan. Ports `Plan::adopt` of src/engine/plan.rs, nodes only. The call is total, and a refused one changes nothing.
+#![tactic(auto)]
+
 ghost use Rattle.std.specs.Prelude.{◌≡◌};
 ghost use Rattle.adoption.specs.Adoption.{lent, short_nodes, adoption_answer, pair_adopted, pairs_adopted, adoption_floats, adoption_words};
 ghost use Rattle.adoption.specs.Fits.{Fit};

@@ -1,5 +1,7 @@
 // The tests of the builder calls but `buffer`, in their order; those that can meet number 5 are handed the limits. None writes.
 // All of it is for the crates above and not the interface: a function that has a `requires` says in its comment what it takes.
+#![tactic(auto)]
+
 pub mod limits;
 
 ghost use Rattle.std.specs.Prelude.{◌≡◌, ◌+◌, ◌≤◌};

@@ -1,5 +1,7 @@
 // The stores of `buffers`, `step` and `finish`: each writes a run of an area and leaves the rest.
 // All of it is for the crates above and not the interface: a function that has a `requires` says in its comment what it takes.
+#![tactic(auto)]
+
 ghost use Rattle.std.specs.Prelude.{◌≡◌, ◌+◌, ◌≤◌, length, take, replicate};
 ghost use Rattle.std.proofs.lemmas.List.Edits.{sets};
 ghost use Rattle.node.specs.Nodes.{silence};

@@ -1,5 +1,7 @@
 // The builder calls, which lay out a plan in lent areas. Ports `PlanBuilder` of src/engine/plan.rs. Each call is total: it tests what
 // docs/DECISIONS.md, point 2, lists, and a refused one changes nothing.
+#![tactic(auto)]
+
 ghost use Rattle.std.specs.Prelude.{◌≡◌, length};
 ghost use Rattle.plan.specs.Limits.{unit_limits};
 ghost use Rattle.builder.specs.Growth.{buffers_growth, coefficients_growth, node_growth, step_growth};
@@ -12,26 +14,26 @@ use plan::{Limits, Plan, Span};
 use refusal::{Answer, Refusal};
 
 // The record after a call, which is unchanged where the call is refused, and the answer.
-#[derive(Drop)]
+#[derive(Clone, Copy)]
 pub struct Spanned {
     pub plan: Plan,
     pub answer: SpanAnswer,
 }
 
-#[derive(Drop)]
+#[derive(Clone, Copy)]
 pub struct Numbered {
     pub plan: Plan,
     pub answer: NumberAnswer,
 }
 
-#[derive(Drop)]
+#[derive(Clone, Copy)]
 pub struct Grown {
     pub plan: Plan,
     pub answer: Answer,
 }
 
 // The calls. The record that they build goes in and comes back by value.
-#[derive(Drop)]
+#[derive(Clone, Copy)]
 pub struct PlanBuilder {
     pub plan: Plan,
 }

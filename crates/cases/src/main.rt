@@ -1,4 +1,6 @@
 // Document 01's table of cases, run through the public calls: a line for each, with what came out.
+#![tactic(auto)]
+
 mod answers;
 mod checks;
 mod floats;

@@ -1,11 +1,13 @@
 // Lists beside the words that they should be, as the program `replay` compares them: the first place where they differ.
+#![tactic(auto)]
+
 pub mod floats;
 
 ghost use Rattle.std.specs.Prelude.{◌≡◌};
 ghost use Rattle.comparison.specs.Lists.{word, sample, alike, ending, compared};
 
 // Whether two lists are the same, and else the first place where they differ: a list that ends differs there from one that goes on.
-#[derive(Drop)]
+#[derive(Clone, Copy)]
 pub struct Comparison {
     pub same: bool,
     pub place: usize,

@@ -19,7 +19,7 @@ pub const LINES: usize = 16;
 // The ramp, in samples, of a node that fades in from 0.
 pub const FADE: u32 = 4_800;
 
-#[derive(Drop)]
+#[derive(Clone, Copy)]
 pub struct Draft {
     pub plan: Plan,
     pub answer: Answer,

@@ -1,4 +1,6 @@
 // The nodes of a plan beside those of an old one whose layout is the same: adopted by their numbers, and compared by digests.
+#![tactic(auto)]
+
 ghost use Rattle.std.specs.Prelude.{◌≡◌, ◌+◌, ◌*◌, ◌≤◌, length};
 ghost use Rattle.node.specs.Sizes.{node_float_count};
 ghost use Rattle.node.specs.Areas.{Room};

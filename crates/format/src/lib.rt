@@ -1,4 +1,6 @@
 // Channel formats and labels by their numbers. Ports the enums of src/mix/format.rs.
+#![tactic(auto)]
+
 ghost use Rattle.std.specs.Prelude.{◌≡◌, get_or};
 ghost use Rattle.format.specs.Labels.{no_label};
 ghost use Rattle.format.specs.Formats.{channels, label_of, index_of, has};
@@ -55,7 +57,7 @@ const SURROUND_714: [u32; 12] = [L, R, C, LFE, LSS, RSS, LRS, RRS, LTF, RTF, LTR
 const CHANNELS: [usize; 7] = [1, 2, 3, 6, 8, 10, Format::MAX_CHANNELS];
 
 // A format by its number, in the order of the Rust's enum.
-#[derive(Drop)]
+#[derive(Clone, Copy)]
 pub struct Format {
     pub number: u32,
 }

@@ -1,4 +1,6 @@
 // The balance of left and right channels, and the stereo width. Ports `balance_gains`, `balance_of` and `stereo_matrix` of src/mix/format.rs.
+#![tactic(auto)]
+
 ghost use Rattle.std.specs.Prelude.{◌≡◌, ◌≤◌, ◌++◌, length, drop};
 ghost use Rattle.format.specs.Formats.{channels};
 ghost use Rattle.format_balance.specs.Balance.{side};
@@ -11,14 +13,14 @@ use refusal::{Answer, Refusal};
 const SIDE: [u32; 15] = [0, 1, 2, 0, 0, 1, 2, 1, 2, 1, 2, 1, 2, 1, 2];
 
 // The answer of `balance_gains`: the gain of the left channels, and that of the right.
-#[derive(Drop)]
+#[derive(Clone, Copy)]
 pub enum Gains {
     Pair(f64, f64),
     Refused(Refusal),
 }
 
 // The answer of `stereo_matrix`: L from L, L from R, R from L, R from R.
-#[derive(Drop)]
+#[derive(Clone, Copy)]
 pub enum Stereo {
     Matrix(f64, f64, f64, f64),
     Refused(Refusal),

@@ -1,4 +1,6 @@
 // The width mapping from one format to another as a matrix of gains. Ports `width_matrix` and `fold` of src/mix/format.rs.
+#![tactic(auto)]
+
 ghost use Rattle.std.specs.Prelude.{◌≡◌, ◌+◌, ◌<◌, ◌≤◌, ◌++◌, map, length, take, drop};
 ghost use Rattle.rounding.specs.Narrow.{narrowed};
 ghost use Rattle.format.specs.Floats.{zero64};
@@ -10,7 +12,7 @@ use refusal::{Answer, Refusal};
 
 // The caller's linear gains. The pan pair is that of a mono signal in the centre, left and right.
 #[repr(C)]
-#[derive(Drop)]
+#[derive(Clone, Copy)]
 pub struct FoldGains {
     pub pan_left: f64,
     pub pan_right: f64,
@@ -21,13 +23,13 @@ pub struct FoldGains {
 }
 
 // Rows times columns entries, row after row, of at most 12 by 12; the rest is 0.
-#[derive(Drop)]
+#[derive(Clone, Copy)]
 pub struct Matrix {
     pub entries: [f64; 144],
 }
 
 // The labels that a label turns into where the destination lacks it, each with its gain.
-#[derive(Drop)]
+#[derive(Clone, Copy)]
 pub enum Targets {
     Nothing,
     One(u32, f64),

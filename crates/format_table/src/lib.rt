@@ -1,4 +1,6 @@
 // The fold by a house table (request C-14): a sound designer's own coefficients in place of the built-in fold. `applies` ports src/mix/downmix.rs.
+#![tactic(auto)]
+
 use format_fold::FoldGains;
 use refusal::Answer;
 

@@ -13,14 +13,14 @@ use sets::Set;
 const ALL: u32 = Format::COUNT * Format::COUNT;
 
 // The pairs that an entry is for, and those that two or more are for.
-#[derive(Drop)]
+#[derive(Clone, Copy)]
 pub struct Seen {
     pub once: Set,
     pub twice: Set,
 }
 
 // Some pair that is to be covered has no entry; some pair has two; some pair that is not to be covered has one.
-#[derive(Drop)]
+#[derive(Clone, Copy)]
 pub struct Faults {
     pub missing: bool,
     pub twice: bool,

@@ -9,7 +9,7 @@ use format::Format;
 use refusal::{Answer, Refusal};
 
 // The gains that the entries need, where there are so many.
-#[derive(Drop)]
+#[derive(Clone, Copy)]
 pub enum Needs {
     Short,
     Gains(usize),

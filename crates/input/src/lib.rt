@@ -1,5 +1,7 @@
 // The input block: a directory of entries, four u32 each (input, channel, start, length), over the lent samples. It stands in for the trait object
 // `InputSource` of src/engine/plan.rs. `lookup` and `directory_bad` are calls of the interface; the other `pub` functions are for crate `run_process`.
+#![tactic(auto)]
+
 ghost use Rattle.std.specs.Prelude.{◌≡◌, ◌*◌, ◌≤◌, ◌<◌, length, replicate};
 ghost use Rattle.lists.specs.Parts.{part};
 ghost use Rattle.plan.specs.Limits.{inputs};

@@ -1,10 +1,12 @@
 // An insert point: what its caller names, and what the one builder call for it is: the single builder calls that it is made of, what they add, its tests, what it
 // hands back and leaves, and the laws of that. There is no code here: crates `insert_answers` and `insert_calls` have it.
+#![tactic(auto)]
+
 use plan::Span;
 
 // The ids of an insert's nodes, by the Rust's names and in the order in which the nodes are made. Without a return that of the send alone is read.
 #[repr(C)]
-#[derive(Drop)]
+#[derive(Clone, Copy)]
 pub struct InsertIds {
     pub send: u32,
     pub ret: u32,
@@ -16,7 +18,7 @@ pub struct InsertIds {
 
 // What comes back to an insert: an input and its first channel, both counted from 1, at a linear gain. At bypass the dry signal is heard in its place.
 #[repr(C)]
-#[derive(Drop)]
+#[derive(Clone, Copy)]
 pub struct InsertReturn {
     pub input: u32,
     pub channel: u32,
@@ -26,7 +28,7 @@ pub struct InsertReturn {
 
 // An insert on the buffers `src`: they go at a linear gain to the Output of a slot. Without a return `back` is not read.
 #[repr(C)]
-#[derive(Drop)]
+#[derive(Clone, Copy)]
 pub struct InsertPoint {
     pub format: u32,
     pub src: Span,

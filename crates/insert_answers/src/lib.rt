@@ -1,5 +1,7 @@
 // The tests of an insert, in their order. None writes. All of it is for the crates above and not the interface: a function that has a `requires` says in its comment
 // what it takes.
+#![tactic(auto)]
+
 ghost use Rattle.std.specs.Prelude.{◌≡◌, ◌*◌, ◌≤◌, length, drop};
 ghost use Rattle.lists.specs.Entries.{has};
 ghost use Rattle.node.specs.Sizes.{node_word_count};

@@ -1,6 +1,8 @@
 // The builder call for an insert: an effects box of the house on a strip. Ports `insert` of src/mix/compile.rs. The call is total: it tests what docs/DECISIONS.md,
 // point 64, lists, and a refused one changes nothing. Once it is accepted its single builder calls are made in turn, and their answers are not looked at: each is
 // accepted (`insert_accepted` of crate `insert`).
+#![tactic(auto)]
+
 mod wiring;
 
 ghost use Rattle.std.specs.Prelude.{◌≡◌};

@@ -136,7 +136,7 @@ fn add_send(
 }
 
 // A matrix of at most 12 by 12.
-#[derive(Drop)]
+#[derive(Clone, Copy)]
 struct Square {
     entries: [f32; 144],
 }

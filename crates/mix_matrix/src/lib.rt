@@ -1,5 +1,7 @@
 // Matrix. A row is made piece by piece, all its columns at each piece, so that it is stored once; each sample sees the sources in order.
 // All of it is for the crates above and not the interface: a function that has a `requires` says in its comment what it takes.
+#![tactic(auto)]
+
 ghost use Rattle.std.specs.Prelude.{◌≡◌, ℕ, ◌+◌, ◌-◌, ◌*◌, ◌≤◌, ◌<◌, length, get_or};
 ghost use Rattle.std.specs.Float.{nan};
 ghost use Rattle.std.proofs.lemmas.List.Edits.{sets};

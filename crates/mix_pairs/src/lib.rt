@@ -1,6 +1,8 @@
 // Two buffers into another, or into each of two others, in one pass: in whole pieces, as in crate `mix_pieces`, and the samples after the last one
 // by one, or on a ramp as a shorter piece. Each sample sees the sources in order.
 // All of it is for the crates above and not the interface: a function that has a `requires` says in its comment what it takes.
+#![tactic(auto)]
+
 ghost use Rattle.std.specs.Prelude.{◌≡◌};
 ghost use Rattle.node.specs.declared.Gain.TheVariants as gain;
 ghost use Rattle.mix.specs.Samples.{sample, put};

@@ -1,6 +1,8 @@
 // One buffer into another, in whole pieces: the source's part is handed on to the loop, and the destination's samples go through a local,
 // since two parts of one area cannot be lent at once. The samples after the last whole piece go one by one, or on a Send's ramp as a shorter piece.
 // All of it is for the crates above and not the interface: a function that has a `requires` says in its comment what it takes.
+#![tactic(auto)]
+
 ghost use Rattle.std.specs.Prelude.{◌≡◌};
 ghost use Rattle.node.specs.declared.Gain.TheVariants as gain;
 ghost use Rattle.mix.specs.Samples.{sample, put};

@@ -1,5 +1,7 @@
 // The loops of Send over the buffers of one area. Ports those of `Plan::process` in src/engine/plan.rs.
 // All of it is for the crates above and not the interface: a function that has a `requires` says in its comment what it takes.
+#![tactic(auto)]
+
 ghost use Rattle.std.specs.Prelude.{◌≡◌, true, false, ◌+◌, ◌*◌, ◌≤◌, length};
 ghost use Rattle.node.specs.declared.Gain.TheVariants as gain;
 ghost use Rattle.mix.specs.Mix.{is_zero, silent, send_in, weighs, sends, Pair, Row, Buffers};

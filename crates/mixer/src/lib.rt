@@ -5,6 +5,8 @@
 // record too, so that a caller can hand in no record and no place for an answer that is too short, and a refused call writes nothing.
 // A call that can be refused replies with a `Status`, beside its values where it has any; those of a refused call are 0 and false.
 // No call has a `requires`. `Replies.antt` of crate `mixer_replies` gives the reply for each answer.
+#![tactic(auto)]
+
 mod building;
 mod folding;
 mod running;

@@ -1,5 +1,7 @@
 // The answers of the calls in C's form. A reply has a `Status`, beside the values of the answer where it has any; those of a refused call are 0 and
 // false. `specs/Replies.antt` gives the reply for each answer.
+#![tactic(auto)]
+
 ghost use Rattle.std.specs.Prelude.{◌≡◌};
 ghost use Rattle.mixer_replies.specs.Replies.{accepted, refused, status_of, plan_reply, span_reply, node_reply, buffer_reply, counted, not_counted, ran_reply, sources_reply, all_reply, clean_reply, gains_reply, stereo_reply};
 
@@ -12,7 +14,7 @@ use trace::{AllSources, CleanAnswer, Sources};
 
 // 0 and 0 where the call was accepted, else the refusal's number and place.
 #[repr(C)]
-#[derive(Drop)]
+#[derive(Clone, Copy)]
 pub struct Status {
     pub number: u32,
     pub place: u32,
@@ -20,14 +22,14 @@ pub struct Status {
 
 // The record after a builder call, which is as it was where the call is refused.
 #[repr(C)]
-#[derive(Drop)]
+#[derive(Clone, Copy)]
 pub struct PlanReply {
     pub status: Status,
     pub plan: Plan,
 }
 
 #[repr(C)]
-#[derive(Drop)]
+#[derive(Clone, Copy)]
 pub struct SpanReply {
     pub status: Status,
     pub plan: Plan,
@@ -35,7 +37,7 @@ pub struct SpanReply {
 }
 
 #[repr(C)]
-#[derive(Drop)]
+#[derive(Clone, Copy)]
 pub struct NodeReply {
     pub status: Status,
     pub plan: Plan,
@@ -43,7 +45,7 @@ pub struct NodeReply {
 }
 
 #[repr(C)]
-#[derive(Drop)]
+#[derive(Clone, Copy)]
 pub struct BufferReply {
     pub status: Status,
     pub buffer: u32,
@@ -51,21 +53,21 @@ pub struct BufferReply {
 
 // How many entries of a lent area were written: output samples, the samples of a part, or inputs; for all source lists, how many slots there are.
 #[repr(C)]
-#[derive(Drop)]
+#[derive(Clone, Copy)]
 pub struct CountReply {
     pub status: Status,
     pub count: usize,
 }
 
 #[repr(C)]
-#[derive(Drop)]
+#[derive(Clone, Copy)]
 pub struct CleanReply {
     pub status: Status,
     pub clean: bool,
 }
 
 #[repr(C)]
-#[derive(Drop)]
+#[derive(Clone, Copy)]
 pub struct GainsReply {
     pub status: Status,
     pub left: f64,
@@ -73,7 +75,7 @@ pub struct GainsReply {
 }
 
 #[repr(C)]
-#[derive(Drop)]
+#[derive(Clone, Copy)]
 pub struct StereoReply {
     pub status: Status,
     pub left_from_left: f64,

@@ -1,12 +1,14 @@
 // The smoothed values of one node of a mix plan, and one gain of it. A node in its lent areas is defined here too; crate `node_areas` has the code.
 // All of it is for the crates above and not the interface: a function that has a `requires` says in its comment what it takes.
+#![tactic(auto)]
+
 ghost use Rattle.std.specs.Prelude.{◌≡◌, true, cond, ◌+◌, ◌<◌, ◌≤◌};
 ghost use Rattle.node.specs.Sizes.{max_values, max_ramp};
 ghost use Rattle.node.specs.Nodes.{with_target, at_target, start_ramp, new_node, set_node, finish_block, gain_from, gain_of, ramping, factor};
 
 use lists::smaller;
 
-#[derive(Drop)]
+#[derive(Clone, Copy)]
 pub struct Node {
     pub id: u32,
     // How many values it has: at most MAX, but for a bad node of the lent areas.
@@ -22,7 +24,7 @@ pub struct Node {
 }
 
 // One gain of a node: at rest, with its target, or ramping, with cur, step, target and left.
-#[derive(Drop)]
+#[derive(Clone, Copy)]
 pub enum Gain {
     Rest(f32),
     Moving(f32, f32, f32, u32),

@@ -1,5 +1,7 @@
 // Nodes in their lent areas: 72 floats (cur, target, step) and four u32 (id, len, left, safe) each.
 // All of it is for the crates above and not the interface: a function that has a `requires` says in its comment what it takes.
+#![tactic(auto)]
+
 ghost use Rattle.std.specs.Prelude.{◌≡◌, ◌+◌, ◌*◌, ◌≤◌, length};
 ghost use Rattle.std.proofs.lemmas.List.Edits.{sets};
 ghost use Rattle.lists.specs.Parts.{part};

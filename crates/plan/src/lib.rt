@@ -1,10 +1,12 @@
 // The plan record, its steps, and the limits. Ports `Span` and `Step` of src/engine/plan.rs. What the step words say and what the plan check accepts
 // are defined here, with the laws of both. There is no code here: crates `plan_reader`, `plan_steps`, `plan_areas` and `plan_check` have it.
+#![tactic(auto)]
+
 use refusal::Refusal;
 
 // A plan's block and counts, which go with its lent areas. `words` counts the step words.
 #[repr(C)]
-#[derive(Drop)]
+#[derive(Clone, Copy)]
 pub struct Plan {
     pub block: usize,
     pub buffers: usize,
@@ -16,7 +18,7 @@ pub struct Plan {
 }
 
 // The most that a plan may have of each; step words have no limit of their own.
-#[derive(Drop)]
+#[derive(Clone, Copy)]
 pub struct Limits {
     pub buffers: usize,
     pub indices: usize,
@@ -27,14 +29,14 @@ pub struct Limits {
 
 // A run of entries in the index list or in the coefficients.
 #[repr(C)]
-#[derive(Drop)]
+#[derive(Clone, Copy)]
 pub struct Span {
     pub start: u32,
     pub len: u32,
 }
 
 // One step of a plan. Buffer lists are spans of the index list.
-#[derive(Drop)]
+#[derive(Clone, Copy)]
 pub enum Step {
     Patch {
         input: u32,
@@ -67,14 +69,14 @@ pub enum Step {
 }
 
 // A step that was read, and the place after it; or none.
-#[derive(Drop)]
+#[derive(Clone, Copy)]
 pub enum Read {
     Found(Step, usize),
     Bad,
 }
 
 // The answer of a check that counts: the channels that the steps append to the output.
-#[derive(Drop)]
+#[derive(Clone, Copy)]
 pub enum Counted {
     Channels(usize),
     Refused(Refusal),

@@ -1,5 +1,7 @@
 // The tests of a plan as a whole: its block (number 1), its counts (5), its areas (2), its index entries (4) and the ids of its nodes (8).
 // All of it is for the crates above and not the interface: a function that has a `requires` says in its comment what it takes.
+#![tactic(auto)]
+
 ghost use Rattle.std.specs.Prelude.{◌≡◌, true, false, ◌*◌, ◌<◌, ◌≤◌, length};
 ghost use Rattle.lists.specs.Entries.{some_from};
 ghost use Rattle.node.specs.Sizes.{node_word_count};

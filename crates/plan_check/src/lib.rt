@@ -1,4 +1,6 @@
 // The plan check, which is added to what the Rust has.
+#![tactic(auto)]
+
 ghost use Rattle.std.specs.Prelude.{◌≡◌, true, false, [], ◌≤◌};
 ghost use Rattle.refusal.specs.Tests.{first};
 ghost use Rattle.plan.specs.Limits.{unit_limits};

@@ -1,5 +1,7 @@
 // The steps as the step words hold them: a map, then a word for each of its bits that has a field.
 // All of it is for the crates above and not the interface: a function that has a `requires` says in its comment what it takes.
+#![tactic(auto)]
+
 ghost use Rattle.std.specs.Prelude.{◌≡◌, ◌+◌, ◌<◌, ◌≤◌, leb, length};
 ghost use Rattle.plan.specs.Words.{max_fields, fields, read_at};
 ghost use Rattle.plan.specs.Records.{patch_at, gain_at, matrix_at, clear_at, send_at, output_at};

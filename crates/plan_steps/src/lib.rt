@@ -1,5 +1,7 @@
 // The tests of a step that was read (numbers 4, 7 and 6), the buffers that its spans name, and the channels that it appends to the output.
 // All of it is for the crates above and not the interface: a function that has a `requires` says in its comment what it takes.
+#![tactic(auto)]
+
 ghost use Rattle.std.specs.Prelude.{◌≡◌, true, false, ◌||◌, ℕ, ◌+◌, ◌*◌, ◌<◌, ◌≤◌, length};
 ghost use Rattle.lists.specs.Entries.{some_from, has, meet};
 ghost use Rattle.sets.specs.Sets.{member, set_size};

@@ -1,17 +1,19 @@
 // Why a call changed nothing: document 01's number of the reason, and the step of the plan.
 // Every call that can be refused answers with these. `specs/Tests.antt` says which of several reasons answers.
+#![tactic(auto)]
+
 ghost use Rattle.std.specs.Prelude.{◌≡◌};
 ghost use Rattle.refusal.specs.Tests.{refusal};
 
 // The place is the step, from 1, that the plan check was at, and 0 in every other refusal.
-#[derive(Drop)]
+#[derive(Clone, Copy)]
 pub struct Refusal {
     pub number: u32,
     pub place: u32,
 }
 
 // The answer of a call that hands nothing back.
-#[derive(Drop)]
+#[derive(Clone, Copy)]
 pub enum Answer {
     Accepted,
     Refused(Refusal),

@@ -1,5 +1,7 @@
 // Runs a sample of the reference's answers through the public calls, and compares: every sample, node, buffer, list, fold and refusal, and after a
 // refused call every area that was lent. The file is named by the first argument; it says at its front how it was made.
+#![tactic(auto)]
+
 mod areas;
 mod builds;
 mod compare;

@@ -1,4 +1,6 @@
 // An f64 rounded to the nearest f32, a tie to the even one, worked out from the bits. `narrowed` says what that is.
+#![tactic(auto)]
+
 ghost use Rattle.std.specs.Prelude.{◌≡◌, ◌+◌, ◌/◌, ◌%◌, ◌^◌, ◌<◌, ◌≤◌};
 ghost use Rattle.std.specs.Float.Ieee.Nearest.{closest};
 ghost use Rattle.rounding.specs.Narrow.{narrowed, pattern};

@@ -1,5 +1,7 @@
 // The six kinds of steps, a function each: Gain, Matrix and Send, which have a node, then Patch, Clear and Output.
 // All of it is for the crates above and not the interface: a function that has a `requires` says in its comment what it takes.
+#![tactic(auto)]
+
 ghost use Rattle.std.specs.Prelude.{◌≡◌, ◌+◌, ◌*◌, ◌≤◌, length};
 ghost use Rattle.lists.specs.Parts.{part};
 ghost use Rattle.lists.specs.Entries.{Disjoint};

@@ -1,5 +1,7 @@
 // A run of a plan over one block. Ports `Plan::process` of src/engine/plan.rs. The call is total, and a refused one changes nothing. `process` is a call of
 // the interface; the two halves of it that are `pub` too are for the crates above, and `run_block` says in its comment what it takes.
+#![tactic(auto)]
+
 mod answers;
 mod steps;
 

@@ -1,12 +1,14 @@
 // Sets of numbers below 256, in the place of the Rust's `BTreeSet`: the inputs behind a buffer, which are document 01's source sets, the buffers of
 // a span, and the pairs of formats of a house table.
 // All of it is for the crates above and not the interface: a function that has a `requires` says in its comment what it takes.
+#![tactic(auto)]
+
 ghost use Rattle.std.specs.Prelude.{◌≡◌, false, not, ◌&&◌, ◌||◌, ◌++◌, ℕ, ◌+◌, ◌<◌, ◌≤◌, eqb, length, drop, get_or};
 ghost use Rattle.std.proofs.lemmas.List.Edits.{sets};
 ghost use Rattle.sets.specs.Sets.{words, member, members, only, places, set_size};
 
 // The number i is in the set where bit i % 64 of word i / 64 is 1.
-#[derive(Drop)]
+#[derive(Clone, Copy)]
 pub struct Set {
     pub w0: u64,
     pub w1: u64,

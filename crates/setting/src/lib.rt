@@ -1,5 +1,7 @@
 // A setting of a node. Ports `Plan::set_param` of src/engine/plan.rs. `set_param` is total, and a refused one changes nothing; `set_node` is for
 // the crates above, and has a `requires`.
+#![tactic(auto)]
+
 ghost use Rattle.std.specs.Prelude.{◌≡◌, ◌*◌, ◌≤◌, length};
 ghost use Rattle.refusal.specs.declared.Answer.TheVariants.{Accepted};
 ghost use Rattle.node.specs.Sizes.{node_word_count};

@@ -96,7 +96,7 @@ pub const STEPS: usize = 512;
 pub const SAMPLES: usize = 16_384;
 
 // The id of its level, the input, the input's format, the format of the line, the level, the ramp to it, and whether no adoption may touch it.
-#[derive(Drop)]
+#[derive(Clone, Copy)]
 pub struct Strip(
     pub u32,
     pub u32,
@@ -108,11 +108,11 @@ pub struct Strip(
 );
 
 // The format of a slot's bus, the slot whose bus it folds, the id of the fold's gains.
-#[derive(Drop)]
+#[derive(Clone, Copy)]
 pub struct Slot(pub u32, pub usize, pub u32);
 
 // The id of its level, the line that is sent, the slot whose bus takes it, the level.
-#[derive(Drop)]
+#[derive(Clone, Copy)]
 pub struct Send(pub u32, pub usize, pub usize, pub f32);
 
 // The emergency announcement is spoken into the talkback's microphone. Its level is there at once, at its own value, in a new layout too: it is safe.

@@ -1,5 +1,7 @@
 // The default show of a theatre unit: a layout of eleven outputs, four seconds of it, a second layout that adopts its nodes, and its cue sheet. A call
 // that is refused, and is not shown as such, ends the program with a line that says so.
+#![tactic(auto)]
+
 mod build;
 mod buses;
 mod inserts;

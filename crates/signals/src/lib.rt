@@ -1,4 +1,6 @@
 // The signals that the program `show` plays, and the digest of what it writes.
+#![tactic(auto)]
+
 pub mod digest;
 pub mod inputs;
 

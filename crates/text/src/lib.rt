@@ -1,18 +1,22 @@
 // Text on the standard output, for the programs. No contract says what is written: `rt check` compares it with a program's file `stdout`.
-use libc::STDOUT_FILENO;
+#![tactic(auto)]
+
 use refusal::Refusal;
 
+// The standard output's descriptor.
+const STDOUT: i32 = 1;
+
 pub fn put(text: &[u8]) {
-    io::write_all(STDOUT_FILENO, text);
+    io::write_all(STDOUT, text);
 }
 
 pub fn whole(n: u64) {
-    io::print_decimal(STDOUT_FILENO, n);
+    io::print_decimal(STDOUT, n);
 }
 
 // n in hexadecimal, with zeros in front up to so many digits.
 pub fn hex(n: u64, digits: usize) {
-    io::print_hex(STDOUT_FILENO, n, digits);
+    io::print_hex(STDOUT, n, digits);
 }
 
 fn spaces(n: usize) {

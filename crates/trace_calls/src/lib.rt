@@ -1,4 +1,6 @@
 // The calls of the trace: the inputs behind each output of a plan. Ports `output_sources` of src/engine/plan.rs; the clean answer is added.
+#![tactic(auto)]
+
 mod slots;
 
 ghost use Rattle.std.specs.Prelude.{◌≡◌, length};

@@ -1,5 +1,7 @@
 // The clean answer's walk of a plan's steps, with the set of the buffers that are written.
 // All of it is for the crates above and not the interface: a function that has a `requires` says in its comment what it takes.
+#![tactic(auto)]
+
 ghost use Rattle.std.specs.Prelude.{◌≡◌, ◌||◌, [], map, ℕ, ◌≤◌, length};
 ghost use Rattle.lists.specs.Entries.{has};
 ghost use Rattle.sets.specs.Sets.{member};
