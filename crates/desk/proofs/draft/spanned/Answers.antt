@@ -1,0 +1,16 @@
+-- `desk::draft::spanned` meets its contract. Assumes nothing.
+use mathlib.Core.Path.{sym, ap, ◌∙◌}
+use Rattle.desk.specs.declared.draft.Draft.{Draft}
+use Rattle.desk.specs.Draft.{span_made, with_span}
+use Rattle.desk.proofs.draft.spanned.Goals as goal
+
+pub returns-in-Refused : goal.returns-in-Refused
+returns-in-Refused c =
+    let a = c.args in
+    c.answered.ensures ∙ ap (span_made a.draft a.made.plan) (sym c.in-Refused.is)
+
+pub returns-in-Made : goal.returns-in-Made
+returns-in-Made c =
+    let a = c.args in
+    let g = c.answer-in-Made-1.given in
+    ap (λ (d : Draft). with_span d g.0.0) c.answered-draft.ensures ∙ ap (span_made a.draft a.made.plan) (sym g.1)

@@ -1,0 +1,40 @@
+use mathlib.Core.Path.{refl, sym, ap, ◌∙◌}
+use mathlib.Core.Bool.{true, false}
+use native.Mathlib.Omega.{arith}
+use lib.ListN.{drop_of_length-le}
+use Rattle.plan.specs.Check.{id_among}
+use Rattle.builder.specs.Sums.{ids_taken}
+use Rattle.insert_answers.proofs.ids_taken.Goals as goal
+
+pub loop-i-init : goal.loop-i-init
+loop-i-init c = refl
+
+pub id_among-requires : goal.id_among-requires
+id_among-requires c = c.requires
+
+pub returns-then-id_among : goal.returns-then-id_among
+returns-then-id_among c =
+    let a = c.args in
+    sym
+    (c.loop-i.invariant
+    ∙ held a.words.now a.n a.ids.now c.loop-i.i c.loop-i-test.true (sym c.id_among.ensures ∙ c.if-id_among.true))
+
+pub returns-then-has_from : goal.returns-then-has_from
+returns-then-has_from c =
+    let a = c.args in
+    sym
+    (c.loop-i.invariant
+    ∙ again a.words.now a.n a.ids.now c.loop-i.i c.loop-i-test.true (sym c.id_among.ensures ∙ c.if-id_among.false) (sym c.has_from.ensures ∙ c.if-has_from.true))
+
+pub loop-i-preserved : goal.loop-i-preserved
+loop-i-preserved c =
+    let a = c.args in
+    c.loop-i.invariant
+    ∙ new a.words.now a.n a.ids.now c.loop-i.i c.loop-i-test.true (sym c.id_among.ensures ∙ c.if-id_among.false) (sym c.has_from.ensures ∙ c.if-has_from.false)
+
+pub returns : goal.returns
+returns c =
+    let a = c.args in
+    sym
+    (c.loop-i.invariant
+    ∙ ap (ids_taken a.words.now a.n) (drop_of_length-le a.ids.now {i = c.loop-i.i} (omega arith)))

@@ -1,0 +1,33 @@
+-- `insert_calls::wiring::add_gain` meets its contract: its three calls, one after the other. Assumes nothing.
+use mathlib.Core.Path.{sym, ap, ◌∙◌}
+use mathlib.Core.List.{List, [], ◌∷◌}
+use Prim.Native.Nat.{ℕ}
+use lib.ListN.{replicate}
+use lib.Seq.{length-take-le}
+use lib.Ieee.{Float}
+use Rattle.plan.specs.Limits.{unit_limits}
+use Rattle.plan.specs.Words.{gain_map}
+use Rattle.builder.specs.Built.{buffers, node, step, BuilderState, builder_state, after}
+use Rattle.builder.proofs.States.{buffers_state, node_state, step_state}
+use Rattle.insert_calls.proofs.Parts.{take_alike}
+use Rattle.insert.specs.Wiring.{insert_safe}
+use Rattle.insert_calls.proofs.wiring.add_gain.Goals as goal
+
+pub slice_bounds-node-end : goal.slice_bounds-node-end
+slice_bounds-node-end c = sym (length-take-le c.args.dst.len (replicate 12 c.args.gain) c.requires)
+
+pub returns : goal.returns
+returns c =
+    λ co.
+    let a = c.args in
+    let one = c.node-noded in
+    let two = c.buffers-buffered in
+    let three = c.step-stepped in
+    let rec : List ℕ = gain_map ∷ a.number ∷ a.src.start ∷ a.src.len ∷ a.dst.start ∷ a.dst.len ∷ [] in
+    let start : BuilderState = builder_state a.plan a.indices.now co a.floats.now a.words.now a.steps.now in
+    step_state unit_limits _ _ _ _ _ _ rec three.ensures.1.0 three.ensures.1.1
+    ∙ ap (λ (t : BuilderState). after unit_limits t (step rec)) (buffers_state unit_limits _ _ _ _ _ _ a.dst.len two.ensures.1.0 two.ensures.1.1)
+    ∙ ap (λ (t : BuilderState). after unit_limits (after unit_limits t (buffers a.dst.len)) (step rec))
+    (node_state unit_limits _ _ _ _ _ _ a.id _ a.ramp insert_safe one.ensures.1.0 one.ensures.1.1.0 one.ensures.1.1.1)
+    ∙ ap (λ (xs : List Float). after unit_limits (after unit_limits (after unit_limits start (node a.id xs a.ramp insert_safe)) (buffers a.dst.len)) (step rec))
+    (take_alike a.gain a.dst.len 12 c.requires)

@@ -1,0 +1,41 @@
+use Prim.Native.Nat.{◌-◌, ◌*◌, ◌/◌}
+use native.Mathlib.Omega.{arith}
+use borrow.Author.Rules.{rules}
+use Rattle.node.specs.declared.Gain.TheVariants.{Rest}
+use Rattle.mix.specs.Samples.{silence}
+use Rattle.mix.specs.Loops.{whole_piece, plus_scaled}
+use Rattle.mix.proofs.Pieces.{piece_of, pieces_begin, piece_done, pieces_done, rest_done}
+use Rattle.mix_matrix.proofs.sum_two.Goals as goal
+
+pub loop-i-init : goal.loop-i-init
+loop-i-init c = let a = c.args in (search rules, pieces_begin (λ k x y. plus_scaled (Rest a.a) k x silence) (plus_scaled (Rest a.b)) a.block a.s a.z a.d a.area.now)
+
+pub loop-i-preserved : goal.loop-i-preserved
+loop-i-preserved c =
+    let a = c.args in
+    let p = c.requires in
+    let l = c.loop-i in
+    (search rules, piece_done (λ k x y. plus_scaled (Rest a.a) k x silence) (plus_scaled (Rest a.b)) a.block a.s a.z a.d a.area.now p.0 p.1 l.i c.loop-i-test.true l.invariant.1 c.sum_two_piece.ensures)
+
+pub returns-then-r-block : goal.returns-then-r-block
+returns-then-r-block c =
+    let a = c.args in
+    let l = c.loop-i in
+    pieces_done (λ k x y. plus_scaled (Rest a.a) k x silence) (plus_scaled (Rest a.b)) a.block a.s a.z a.d a.area.now l.i (omega arith) l.invariant.1
+
+pub sum_two_last-requires : goal.sum_two_last-requires
+sum_two_last-requires c =
+    let a = c.args in
+    let p = c.requires in
+    let l = c.loop-i in
+    let r = whole_piece * (a.block / whole_piece) in record {
+      piece = piece_of p.0 l.invariant.1.0 r (a.block - r) (omega arith) (omega arith);
+      piece_2 = piece_of p.1 l.invariant.1.0 r (a.block - r) (omega arith) (omega arith);
+    }
+
+pub returns : goal.returns
+returns c =
+    let a = c.args in
+    let p = c.requires in
+    let l = c.loop-i in
+    rest_done (λ k x y. plus_scaled (Rest a.a) k x silence) (plus_scaled (Rest a.b)) a.block a.s a.z a.d a.area.now p.0 p.1 l.i (omega arith) l.invariant.1 c.sum_two_last.ensures

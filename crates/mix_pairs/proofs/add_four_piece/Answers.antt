@@ -1,0 +1,58 @@
+-- `mix_pairs::add_four_piece` meets its contract: by the laws of a piece of two sources, and of a second one from them. Assumes nothing.
+use mathlib.Core.Path.{refl}
+use native.Mathlib.Omega.{arith}
+use lib.ListN.{replicate, length-replicate}
+use Rattle.node.specs.declared.Gain.TheVariants.{Rest}
+use Rattle.mix.specs.Samples.{silence}
+use Rattle.mix.specs.Loops.{whole_piece, plus_scaled}
+use Rattle.mix.proofs.Mixed.{part_length, piece_two, piece_four}
+use Rattle.mix_pairs.proofs.add_four_piece.Goals as goal
+
+pub add_samples-requires-4 : goal.add_samples-requires-4
+add_samples-requires-4 c =
+    let a = c.args in
+    let p = c.requires in
+    let n = part_length a.area.now a.other a.m p.1.0.0.source in record {
+      x_len_bound = (omega (arith, n, p.0.0.short), omega (arith, n, p.0.0.within));
+      y_len = c.add_samples-3.ensures.0;
+    }
+
+pub store-requires : goal.store-requires
+store-requires c = let p = c.requires in record {
+      m_in_bounds = (p.0.0.target, p.0.0.short);
+      t_len = c.add_samples-2.ensures.0;
+    }
+
+pub store-requires-2 : goal.store-requires-2
+store-requires-2 c = let p = c.requires in record {
+      m_in_bounds = (omega (arith, p.1.1.0.source, c.store.auto.area), p.0.0.short);
+      t_len = c.add_samples-4.ensures.0;
+    }
+
+pub returns : goal.returns
+returns c =
+    let a = c.args in
+    let p = c.requires in
+    let f = plus_scaled (Rest a.a) in
+    let q = plus_scaled (Rest a.b) in
+    let t = replicate whole_piece silence in
+    let n = length-replicate whole_piece silence in
+    piece_four f q (plus_scaled (Rest a.f)) (plus_scaled (Rest a.h)) a.from a.other a.to a.next a.m a.k a.area.now t
+    p.0.0.source
+    p.1.0.0.source
+    p.1.1.0.source
+    (omega (arith, n, p.0.0.short))
+    p.0.1
+    p.1.0.1
+    p.1.1.1
+    (piece_two f q f q a.from a.other a.to a.m a.k a.area.now t p.0.0.source p.1.0.0.source p.0.0.target (omega (arith, n, p.0.0.short))
+    (λ i h x y. refl)
+    (λ i h x y. refl)
+    c.load.ensures.1
+    c.add_samples.ensures.1
+    c.add_samples-2.ensures.1
+    c.store.ensures)
+    c.load-2.ensures.1
+    c.add_samples-3.ensures.1
+    c.add_samples-4.ensures.1
+    c.store-2.ensures

@@ -1,0 +1,12 @@
+-- `mix_pieces::add_last` meets its contract: the invariant is that the first i samples are stored. Assumes nothing.
+use Prim.Native.Nat.{◌-◌, ◌≤◌}
+use Rattle.node.specs.declared.Gain.TheVariants.{Rest}
+use Rattle.mix.specs.Loops.{plus_scaled}
+use Rattle.mix.proofs.Pieces.{alone, LastStored}
+use Rattle.mix_pieces.proofs.add_last.Given as goal
+
+abbrev pub invariant-loop-i : goal.invariant-loop-i
+invariant-loop-i l = (l.i ≤ l.m) × LastStored (plus_scaled (Rest l.a)) alone l.from l.from l.to l.k l.initial.area l.i l.area
+
+abbrev pub decreases-loop-i : goal.decreases-loop-i
+decreases-loop-i l = l.m - l.i

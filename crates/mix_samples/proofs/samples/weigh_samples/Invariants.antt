@@ -1,0 +1,12 @@
+-- `mix_samples::samples::weigh_samples` meets its contract: the invariant is that the first i samples are done. Assumes nothing.
+use mathlib.Core.Path.{◌≡◌}
+use Prim.Native.Nat.{◌-◌, ◌≤◌}
+use lib.ListN.{length}
+use Rattle.mix.specs.Loops.{plus_weighted, mixed_into}
+use Rattle.mix_samples.proofs.samples.weigh_samples.Given as goal
+
+abbrev pub invariant-loop-i : goal.invariant-loop-i
+invariant-loop-i l = (l.i ≤ l.i-end) × (length l.y ≡ length l.initial.y) × (l.y ≡ mixed_into (plus_weighted l.w l.g) l.k l.i l.x l.initial.y)
+
+abbrev pub decreases-loop-i : goal.decreases-loop-i
+decreases-loop-i l = l.i-end - l.i

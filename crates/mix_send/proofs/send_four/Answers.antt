@@ -1,0 +1,39 @@
+-- `mix_send::send_four` meets its contract: by the law of two rows and two columns at rest. Assumes nothing.
+use mathlib.Core.Path.{refl}
+use native.Mathlib.Omega.{arith}
+use lib.ListN.{get_or}
+use Rattle.mix.specs.Mix.{Row}
+use Rattle.mix.proofs.Given.{pair_of, row_of}
+use Rattle.mix.proofs.Turns.{four_sent}
+use Rattle.mix_send.proofs.send_four.Goals as goal
+
+pub overflow_cast-s : goal.overflow_cast-s
+overflow_cast-s c = omega (arith, c.type_inv.src 0)
+
+pub overflow_cast-z : goal.overflow_cast-z
+overflow_cast-z c = omega (arith, c.type_inv.src 1)
+
+pub overflow_cast-d : goal.overflow_cast-d
+overflow_cast-d c = omega (arith, c.type_inv.dst 0)
+
+pub overflow_cast-e : goal.overflow_cast-e
+overflow_cast-e c = omega (arith, c.type_inv.dst 1)
+
+pub add_four-requires : goal.add_four-requires
+add_four-requires c =
+    let a = c.args in
+    let p = c.requires in
+    let n = p.1.0.columns in
+    let m = p.1.0.rows in
+    let d : Row a.block a.src.now (get_or a.dst.now 0 0) a.area.now = row_of refl p.0 0 (omega arith) in
+    let e : Row a.block a.src.now (get_or a.dst.now 1 0) a.area.now = row_of refl p.0 1 (omega arith) in record {
+      pair = (pair_of refl d 0 (omega arith), pair_of refl d 1 (omega arith));
+      pair_2 = (pair_of refl e 0 (omega arith), pair_of refl e 1 (omega arith));
+      fact = p.1.0.differ;
+    }
+
+pub returns : goal.returns
+returns c =
+    let a = c.args in
+    let p = c.requires in
+    four_sent a.block a.t a.weights.now a.src.now a.dst.now a.area.now p.0 p.1.0 p.1.1 c.add_four.ensures

@@ -1,0 +1,60 @@
+use mathlib.Core.Path.{refl}
+use Prim.Native.Nat.{◌+◌}
+use native.Mathlib.Omega.{arith}
+use lib.ListN.{get_or}
+use lib.Ieee.{nan, eq, ne}
+use borrow.Author.Rules.{rules}
+use Rattle.lists.proofs.Bools.{first_not, second_not}
+use Rattle.mix.specs.Mix.{is_zero}
+use Rattle.mix.proofs.Given.{pair_of}
+use Rattle.mix.proofs.Turns.{no_source, source_sent, sources_sent, two_sent}
+use Rattle.mix_send.proofs.send_row.Goals as goal
+
+pub overflow_cast-src : goal.overflow_cast-src
+overflow_cast-src c = omega (arith, c.type_inv.src 0)
+
+pub overflow_cast-src-then-w-v : goal.overflow_cast-src-then-w-v
+overflow_cast-src-then-w-v c = omega (arith, c.type_inv.src 1)
+
+pub send_two-requires : goal.send_two-requires
+unfolding eq ne
+send_two-requires c =
+    let a = c.args in
+    let p = c.requires in
+    let n = c.if-src-eq2.true in
+    let b = c.if-w-v.true in record {
+      pair = pair_of refl p.0 0 (omega arith);
+      pair_2 = pair_of refl p.0 1 (omega arith);
+      w_value = (first_not (is_zero (get_or a.weights.now a.at nan)) (is_zero (get_or a.weights.now (a.at + 1) nan)) b, second_not (is_zero (get_or a.weights.now a.at nan)) (is_zero (get_or a.weights.now (a.at + 1) nan)) b, p.1.1);
+    }
+
+pub returns-then-w-v : goal.returns-then-w-v
+returns-then-w-v c =
+    let a = c.args in
+    two_sent a.block a.g a.weights.now a.src.now a.d a.at a.area.now c.if-src-eq2.true c.send_two.ensures
+
+pub loop-c-init : goal.loop-c-init
+loop-c-init c = let a = c.args in (search rules, refl, no_source a.block a.g a.weights.now a.src.now a.d a.at a.area.now)
+
+pub overflow_cast-s : goal.overflow_cast-s
+overflow_cast-s c = omega (arith, c.type_inv.src c.loop-c.c)
+
+pub send_into-requires : goal.send_into-requires
+send_into-requires c = let l = c.loop-c in record {
+      pair = pair_of l.invariant.1 c.requires.row l.c c.loop-c-test.true;
+      g_value = c.requires.src_in_bounds.1;
+    }
+
+pub loop-c-preserved : goal.loop-c-preserved
+loop-c-preserved c =
+    let a = c.args in
+    let l = c.loop-c in (
+      search rules,
+      search rules,
+      source_sent a.block a.g a.weights.now a.src.now a.d a.at l.c l.area (search rules) l.invariant.2 c.send_into.ensures,
+    )
+
+pub returns : goal.returns
+returns c =
+    let a = c.args in
+    let l = c.loop-c in sources_sent a.block a.g a.weights.now a.src.now a.d a.at l.c l.area (omega arith) l.invariant.2

@@ -1,0 +1,11 @@
+-- `mixer::building::mixer_buffers` meets its contract. Assumes nothing.
+use mathlib.Core.Path.{◌∙◌}
+use Rattle.mixer_replies.specs.Replies.{span_reply}
+use Rattle.mixer.proofs.building.mixer_buffers.Goals as goal
+
+pub returns : goal.returns
+returns c =
+    let e = c.buffers-made.ensures in record {
+      reply = c.span_reply.ensures ∙ (λ i. span_reply (e.1.0 i) (e.0 i));
+      indices = e.1.1;
+    }

@@ -1,0 +1,35 @@
+-- `node::Gain::factor` meets its contract: by the arm that the match took. Assumes nothing.
+use mathlib.Core.Path.{◌≡◌}
+use mathlib.Core.Bool.{true}
+use Prim.Native.Nat.{ℕ, ◌+◌, ◌<◌, ◌≤◌}
+use native.Mathlib.Omega.{arith}
+use lib.IntN.{pos}
+use lib.Ieee.{binary32, in_float}
+use lib.Dec.{T, lit≤}
+use mir.Syntax.{w32}
+use mir.Val.{to_z}
+use mir.Facts.{to_z_pos}
+use Rattle.node.specs.Sizes.{max_ramp}
+use Rattle.node.specs.Nodes.{factor}
+use Rattle.node.proofs.Casts.{exact}
+use Rattle.node.proofs.Gain.factor.Goals as goal
+
+-- a small number as an i32
+signed : (n : ℕ) → n ≤ max_ramp → to_z w32 n ≡ pos n
+signed n h = to_z_pos w32 (omega arith)
+
+signed-exact : (k i : ℕ) → k < max_ramp → i ≤ 1 → T (in_float binary32 (to_z w32 (k + i)))
+signed-exact k i h l = rw (signed (k + i) (omega arith)) (exact (k + i) (omega arith))
+
+pub int_to_float-v : goal.int_to_float-v
+int_to_float-v c = signed-exact c.args.k _ c.requires.0 (lit≤ tt)
+
+pub returns-then-whole : goal.returns-then-whole
+returns-then-whole c = on-it c.in-Moving.is c.args.k c.requires.0 (c.requires.1 c.if-whole.true)
+
+pub returns-in-Rest : goal.returns-in-Rest
+unfolding factor
+returns-in-Rest c = rw c.in-Rest.is
+
+pub returns-else-whole : goal.returns-else-whole
+returns-else-whole c = chosen c.in-Moving.is c.args.k c.requires.0 c.either.ensures

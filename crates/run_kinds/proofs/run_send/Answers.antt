@@ -1,0 +1,16 @@
+-- `run_kinds::run_send` meets its contract. Assumes nothing.
+use native.Mathlib.Omega.{arith}
+use Rattle.run_kinds.proofs.Fits.{node_room, node_len}
+use Rattle.run_kinds.proofs.run_send.Goals as goal
+
+pub end_block-requires : goal.end_block-requires
+end_block-requires c =
+    let f = c.requires.node_fit in
+    (node_room f, node_len f, omega (arith, f.block))
+
+pub returns : goal.returns
+returns c = let e = c.end_block.ensures in record {
+      floats = e.0;
+      words = e.1;
+      buffers = c.send_buffers.ensures;
+    }

@@ -1,0 +1,9 @@
+-- `run_process::steps::run_block` meets its contract. Assumes nothing.
+use Rattle.run_process.proofs.steps.run_block.Goals as goal
+
+pub run_steps-requires : goal.run_steps-requires
+run_steps-requires c = record {
+      fit = c.requires.fit;
+      ends = c.search_ends.ensures;
+      block_in_bounds = c.requires.block_in_bounds.0;
+    }
