@@ -20,14 +20,14 @@ pub returns-then-label : goal.returns-then-label
 unfolding label_of
 returns-then-label c =
     let e : get_or (labels c.args.format) c.loop-c.c no_label ≡ c.args.label = sym c.label.ensures ∙ c.if-label.true in
-    omega (arith, c.loop-c.invariant.1, position_here c.args.label (labels c.args.format) c.loop-c.c no_label (within c.before{-?place-}) e)
+    omega (arith, c.loop-c.invariant.1, position_here c.args.label (labels c.args.format) c.loop-c.c no_label (within c.before {-?place-}) e)
 
 pub loop-c-preserved : goal.loop-c-preserved
 unfolding label_of
 loop-c-preserved c =
     let n : get_or (labels c.args.format) c.loop-c.c no_label ≡ c.args.label → ⊥ = λ e. c.if-label.false (c.label.ensures ∙ e) in (
       omega arith,
-      omega (arith, c.loop-c.invariant.1, position_later c.args.label (labels c.args.format) c.loop-c.c no_label (within c.before{-?place-}) n),
+      omega (arith, c.loop-c.invariant.1, position_later c.args.label (labels c.args.format) c.loop-c.c no_label (within c.before {-?place-}) n),
     )
 
 pub returns : goal.returns
