@@ -1,5 +1,5 @@
 /*
- * The mixer's interface for C99 and C++. Link with libmixer.a (`rt staticlib mixer`), on x86-64 Linux.
+ * The mixer's interface for C99 and C++. Link with libmixer.a (`rt lib` in crates/mixer), on x86-64 Linux.
  *
  * The library keeps nothing between calls and allocates nothing. What a call works on is lent to it:
  *

@@ -1,6 +1,6 @@
 # Read by `run` and `speed`, which name a profile in `profile`: builds the reference and the comparison, and stays in this folder.
 #   ORACLE_REF   the folder of the reference's sources that holds engine/ and mix/
-#   ORACLE_LIB   the folder of libmixer.a; where it is not set, `rt staticlib mixer` proves and builds the library first
+#   ORACLE_LIB   the folder of libmixer.a; where it is not set, `rt lib` in crates/mixer proves and builds the library first
 here=$(dirname "$0")
 said=$(mktemp) || exit 2
 trap 'rm -f "$said" "$said".*' EXIT
@@ -21,8 +21,8 @@ if [ ! -f "${ORACLE_REF:-}/engine/plan.rs" ]; then
 fi
 ORACLE_REF=$(cd "$ORACLE_REF" && pwd)
 if [ -z "${ORACLE_LIB:-}" ]; then
-    stage 'rt staticlib mixer' sh -c 'cd "$1/.." && rt staticlib mixer' sh "$here"
-    ORACLE_LIB=$here/../target/staticlib
+    stage 'rt lib of crates/mixer' sh -c 'cd "$1/../crates/mixer" && rt lib' sh "$here"
+    ORACLE_LIB=$here/../crates/mixer/out
 fi
 ORACLE_LIB=$(cd "$ORACLE_LIB" && pwd)
 export ORACLE_REF ORACLE_LIB
