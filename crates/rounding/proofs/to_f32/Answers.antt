@@ -31,21 +31,21 @@ float_to_bits-bits c = no_nan c.args.x c.if-x.false
 
 pub overflow_mul-sign : goal.overflow_mul-sign
 overflow_mul-sign c =
-    let fits-f64 : T (fits binary64 c.args.x) = subst T (sym c.well-formed.0.1 {-?-}) tt in
+    let fits-f64 : T (fits binary64 c.args.x) = subst T (sym c.well_formed.0.1) tt in
     let bits-lt : (to_bits binary64 c.args.x) < 2 ^ 64 = to_bits-lt binary64 c.args.x (fits-f64) in
     omega (arith, bits-lt)
 
 pub overflow_add-result : goal.overflow_add-result
 overflow_add-result c =
     let result-bits : (to_bits binary64 c.args.x) / 2 ^ 63 * 2 ^ 31 + c.magnitude.result ≡ narrowed_bits ((to_bits binary64 c.args.x)) = ap (λ (p : ℕ). (to_bits binary64 c.args.x) / 2 ^ 63 * 2 ^ 31 + p) c.magnitude.ensures ∙ sign-dropped ((to_bits binary64 c.args.x)) in
-    let fits-f64 : T (fits binary64 c.args.x) = subst T (sym c.well-formed.0.1 {-?-}) tt in
+    let fits-f64 : T (fits binary64 c.args.x) = subst T (sym c.well_formed.0.1) tt in
     let bits-lt : (to_bits binary64 c.args.x) < 2 ^ 64 = to_bits-lt binary64 c.args.x (fits-f64) in
     omega (arith, result-bits, bits_below ((to_bits binary64 c.args.x)) (bits-lt))
 
 pub overflow_cast-result : goal.overflow_cast-result
 overflow_cast-result c =
     let result-bits : (to_bits binary64 c.args.x) / 2 ^ 63 * 2 ^ 31 + c.magnitude.result ≡ narrowed_bits ((to_bits binary64 c.args.x)) = ap (λ (p : ℕ). (to_bits binary64 c.args.x) / 2 ^ 63 * 2 ^ 31 + p) c.magnitude.ensures ∙ sign-dropped ((to_bits binary64 c.args.x)) in
-    let fits-f64 : T (fits binary64 c.args.x) = subst T (sym c.well-formed.0.1 {-?-}) tt in
+    let fits-f64 : T (fits binary64 c.args.x) = subst T (sym c.well_formed.0.1) tt in
     let bits-lt : (to_bits binary64 c.args.x) < 2 ^ 64 = to_bits-lt binary64 c.args.x (fits-f64) in
     omega (arith, result-bits, bits_below ((to_bits binary64 c.args.x)) (bits-lt))
 

@@ -8,26 +8,25 @@ use Rattle.format.specs.Formats.{labels, channels, label_of, position, index_of}
 use Rattle.format.proofs.Labels.{position_here, position_later, position_none}
 use Rattle.format.proofs.Format.index.Goals as goal
 
-within : (c : tie.After-label invariant-loop decreases-loop) → c.before.before.loop.c < length (labels c.before.before.before.before.args.format)
-unfolding channels
-within c = omega (arith, c.before.before.before.channels.ensures)
-
 pub loop-c-init : goal.loop-c-init
 unfolding index_of
 loop-c-init c = (omega arith, sym (zero-add (position c.args.label (labels c.args.format))))
 
 pub returns-then-label : goal.returns-then-label
-unfolding label_of
+unfolding label_of channels
 returns-then-label c =
+    -- the turn's channel is one of the format's
+    let within : c.loop-c.c < length (labels c.args.format) = omega (arith, c.channels-n.ensures) in
     let e : get_or (labels c.args.format) c.loop-c.c no_label ≡ c.args.label = sym c.label.ensures ∙ c.if-label.true in
-    omega (arith, c.loop-c.invariant.1, position_here c.args.label (labels c.args.format) c.loop-c.c no_label (within c.before {-?place-}) e)
+    omega (arith, c.loop-c.invariant.1, position_here c.args.label (labels c.args.format) c.loop-c.c no_label within e)
 
 pub loop-c-preserved : goal.loop-c-preserved
-unfolding label_of
+unfolding label_of channels
 loop-c-preserved c =
+    let within : c.loop-c.c < length (labels c.args.format) = omega (arith, c.channels-n.ensures) in
     let n : get_or (labels c.args.format) c.loop-c.c no_label ≡ c.args.label → ⊥ = λ e. c.if-label.false (c.label.ensures ∙ e) in (
       omega arith,
-      omega (arith, c.loop-c.invariant.1, position_later c.args.label (labels c.args.format) c.loop-c.c no_label (within c.before {-?place-}) n),
+      omega (arith, c.loop-c.invariant.1, position_later c.args.label (labels c.args.format) c.loop-c.c no_label within n),
     )
 
 pub returns : goal.returns

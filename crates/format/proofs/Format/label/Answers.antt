@@ -3,6 +3,7 @@ use mathlib.Core.Path.{◌≡◌, refl, sym, ap, ◌∙◌}
 use mathlib.Core.List.{List}
 use Prim.Native.Nat.{ℕ}
 use lib.ListN.{get_or}
+use borrow.Author.Rules.{rules}
 use Rattle.lists.proofs.Tables.{none_of}
 use Rattle.format.proofs.Labels.{no_format_lem}
 use Rattle.format.specs.Labels.{no_label}
@@ -46,4 +47,4 @@ pub returns-in_default : goal.returns-in_default
 unfolding label_of
 returns-in_default c =
     let f = c.args.format in
-    sym (ap (λ (l : List ℕ). get_or l c.args.channel no_label) (no_format_lem f (none_of f 7 c.in_default.in_default-own.rest)))
+    sym (ap (λ (l : List ℕ). get_or l c.args.channel no_label) (no_format_lem f (none_of f 7 (search rules))))

@@ -14,7 +14,7 @@ pub returns-then-self-eq0-2 : goal.returns-then-self-eq0-2
 returns-then-self-eq0-2 c =
     let a = c.args in
     let m = c.smaller-n in
-    c.at_target.ensures ∙ finish_end a.t1 a.block m.result c.if-self-eq0.false m.ensures c.if-self-eq0-2.true
+    c.at_target.ensures ∙ finish_end a.self a.block m.result c.if-self-eq0.false m.ensures c.if-self-eq0-2.true
 
 pub loop-i-init : goal.loop-i-init
 loop-i-init c = (search rules, refl)
@@ -27,12 +27,12 @@ loop-i-preserved c =
     let a = c.args in
     let m = c.smaller-n.result in
     let l = c.loop-i in
-    (search rules, cur_more l.self (new_left a.t1 (a.t1.left - m)) m l.i l.invariant.1)
+    (search rules, cur_more l.self (new_left a.self (a.self.left - m)) m l.i l.invariant.1)
 
 pub returns : goal.returns
 returns c =
     let a = c.args in
     let m = c.smaller-n in
     let l = c.loop-i in
-    finish_on l.self a.t1 a.block m.result l.i
+    finish_on l.self a.self a.block m.result l.i
     c.if-self-eq0.false m.ensures c.if-self-eq0-2.false l.invariant.1 (omega arith)

@@ -17,5 +17,5 @@ loop-i-preserved c = (search rules, step_more _ _ _ _ c.loop-i.invariant.1)
 pub returns : goal.returns
 returns c =
     let l = c.loop-i in
-    let e : l.i ≡ c.args.t1.len = omega arith in
+    let e : l.i ≡ c.args.self.len = omega arith in
     rw (l.invariant.1, e)

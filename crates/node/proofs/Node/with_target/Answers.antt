@@ -11,7 +11,7 @@ pub loop-i-preserved : goal.loop-i-preserved
 loop-i-preserved c =
     let l = c.loop-i in
     let a = c.args in
-    (search rules, target_more l.self a.t1 a.values.now l.i l.invariant.1)
+    (search rules, target_more l.self a.self a.values.now l.i l.invariant.1)
 
 pub returns : goal.returns
 returns c =
