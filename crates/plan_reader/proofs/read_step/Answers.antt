@@ -92,7 +92,7 @@ pub returns-in-1016 : goal.returns-in-1016
 returns-in-1016 c =
     let fits : (let a = c.args in fields (word a.words.now a.at) < length a.words.now - a.at) = leb-false _ _ (sym c.cut_off.ensures ∙ c.if-cut_off.false) in
     let whole : (let a = c.args in a.at + (1 + fields (word a.words.now a.at)) ≤ length a.words.now) = omega (arith, fits) in
-    arm _ _ send_fields (read_send _ _) (whole) c.in-1016.is c.IsSend-at.ensures{-?-}
+    arm _ _ send_fields (read_send _ _) (whole) c.in-1016.is c.send_at.ensures
     c.field_count-in-1016.ensures.0
 
 pub returns-in-1072 : goal.returns-in-1072
@@ -103,6 +103,4 @@ returns-in-1072 c =
     c.field_count-in-1072.ensures.0
 
 pub returns-in_default : goal.returns-in_default
-returns-in_default c =
-    let r = c.in_default.in_default-own.rest in
-    sym (read_unnamed _ _ r.0.0.0.0.0.1 r.0.0.0.0.1 r.0.0.0.1 r.0.0.1 r.0.1 r.1)
+returns-in_default c = sym (read_unnamed _ _ (omega arith) (omega arith) (omega arith) (omega arith) (omega arith) (omega arith))

@@ -12,12 +12,11 @@ returns-then-has c =
     ∙ listed_yes (meet_listed _) _ c.loop-i-test.true (sym (c.has.ensures ∙ c.set_of-set.ensures _) ∙ c.if-has.true))
 
 pub loop-i-preserved : goal.loop-i-preserved
-loop-i-preserved c =
-    (
-      omega arith,
-      c.loop-i.invariant.1
-          ∙ listed_no (meet_listed _) _ c.loop-i-test.true (sym (c.has.ensures ∙ c.set_of-set.ensures _) ∙ c.if-has.false),
-    )
+loop-i-preserved c = (
+  omega arith,
+  c.loop-i.invariant.1
+      ∙ listed_no (meet_listed _) _ c.loop-i-test.true (sym (c.has.ensures ∙ c.set_of-set.ensures _) ∙ c.if-has.false),
+)
 
 pub returns : goal.returns
 returns c = sym (c.loop-i.invariant.1 ∙ listed_end (meet_listed _) _ c.loop-i.i (omega arith))

@@ -14,7 +14,7 @@ spans_meet-requires c =
     let u = c.used-n.ensures in
     let x = c.first_of.ensures in
     let y = c.first_of-in-Gain.ensures in
-    (c.requires.0, omega (arith, ap (λ (s{-?place-} : Span). c.start{-?-}) x, ap (λ (s{-?place-} : Span). c.len{-?-}) x), omega (arith, ap (λ (s{-?place-} : Span). c.start{-?-}) y, ap (λ (s{-?place-} : Span). c.len{-?-}) y), c.requires.2)
+    (c.requires.0, omega (arith, ap (λ (s : Span). s.start) x, ap (λ (s : Span). s.len) x), omega (arith, ap (λ (s : Span). s.start) y, ap (λ (s : Span). s.len) y), c.requires.2)
 
 pub spans_meet-requires-in-Matrix : goal.spans_meet-requires-in-Matrix
 spans_meet-requires-in-Matrix c =
