@@ -1,29 +1,36 @@
 -- `builder_answers::node_answer` meets its contract. Assumes nothing.
 use mathlib.Core.Path.{◌≡◌, sym, ◌∙◌}
-use mathlib.Core.Bool.{true, false}
-use mathlib.Core.List.{[]}
-use Prim.Native.Nat.{◌+◌, ◌*◌, ◌≤◌}
+use mathlib.Core.Bool.{Bool, ◌||◌, true, false}
+use mathlib.Core.List.{List, []}
+use Prim.Native.Nat.{ℕ, ◌+◌, ◌*◌, ◌≤◌}
 use native.Mathlib.Omega.{arith}
 use borrow.Author.Tests.{ltb-false, lt-ltb, le-ltb}
 use lib.ListN.{length}
 use Rattle.lists.proofs.Bools.{or_none, or_is}
 use Rattle.refusal.specs.Tests.{first}
+use Rattle.refusal.specs.declared.Answer.{Answer}
 use Rattle.refusal.specs.declared.Answer.TheVariants.{Accepted}
 use Rattle.refusal.proofs.Laws.{accepted_none}
 use Rattle.node.specs.Sizes.{node_float_count, node_word_count}
+use Rattle.plan.specs.declared.Plan.{Plan}
+use Rattle.plan.specs.declared.Limits.{Limits}
 use Rattle.plan.specs.Areas.{shorter}
+use Rattle.builder.specs.declared.Growth.{Growth}
 use Rattle.builder.specs.Growth.{limit_tests, grows_past, node_growth}
 use Rattle.builder.specs.Calls.{node_answer, node_own, lent_nodes}
 use Rattle.builder.proofs.Uses.{node_over, node_past}
 use Rattle.builder.proofs.Limits.{limits_say, limits_passed, growth_refused, growth_short, growth_own}
 use Rattle.builder_answers.proofs.node_answer.Goals as goal
 
-late : (c : tie.Else1) → node_answer c.before.before.before.before.before.before.before.before.args.limits c.before.before.before.before.before.before.before.before.args.plan c.before.before.before.before.before.before.before.before.args.id c.before.before.before.before.before.before.before.before.args.n c.before.before.before.before.before.before.before.before.args.ramp c.before.before.before.before.before.before.before.before.args.safe c.before.before.before.before.before.before.before.before.args.floats c.before.before.before.before.before.before.before.before.args.words.now
-    ≡ first (node_own c.before.before.before.before.before.before.before.before.args.plan c.before.before.before.before.before.before.before.before.args.id c.before.before.before.before.before.before.before.before.args.n c.before.before.before.before.before.before.before.before.args.ramp c.before.before.before.before.before.before.before.before.args.safe c.before.before.before.before.before.before.before.before.args.words.now) Accepted
+-- past the limits and the areas, its own tests answer
+late : (l : Limits) (p : Plan) (id n ramp safe floats : ℕ) (words : List ℕ) {made : Growth} {a : Answer} {x y : Bool}
+    → made ≡ node_growth → a ≡ first (limit_tests l p made) Accepted → a ≡ Accepted
+    → x ≡ shorter floats (p.nodes + 1) node_float_count → y ≡ shorter (length words) (p.nodes + 1) node_word_count → (x || y) ≡ false
+    → node_answer l p id n ramp safe floats words ≡ first (node_own p id n ramp safe words) Accepted
 unfolding node_answer
-late c =
-    let a = c.before.before.before.before.before.before.before.before.args in
-    growth_own a.limits a.plan node_growth (lent_nodes a.floats (length a.words.now)) (node_own a.plan a.id a.n a.ramp a.safe a.words.now) (within c.before.before.before) (roomy c)
+late l p id n ramp safe floats words m e f s t none =
+    growth_own l p node_growth (lent_nodes floats (length words)) (node_own p id n ramp safe words)
+    (limits_say l p node_growth m e f) (node_past l p 0 floats (length words) ∙ or_is s t none)
 
 pub returns-in-Refused : goal.returns-in-Refused
 unfolding node_answer
@@ -67,7 +74,8 @@ returns-then-shorter c =
 pub returns-then-n-gt-MAX : goal.returns-then-n-gt-MAX
 unfolding node_answer
 returns-then-n-gt-MAX c =
-    sym (late c.before.before{-?place-} ∙ rw (lt-ltb _ _ c.if-n-gt-MAX.true) (sym c.refused-then-n-gt-MAX.ensures))
+    sym (late c.args.limits c.args.plan c.args.id c.args.n c.args.ramp c.args.safe c.args.floats c.args.words.now
+    c.node_growth.ensures c.limits_answer.ensures c.in_default.is c.shorter.ensures c.shorter-2.ensures c.if-shorter.false ∙ rw (lt-ltb _ _ c.if-n-gt-MAX.true) (sym c.refused-then-n-gt-MAX.ensures))
 
 pub id_among-requires : goal.id_among-requires
 id_among-requires c =
@@ -82,21 +90,24 @@ pub returns-then-id_among : goal.returns-then-id_among
 unfolding node_answer
 returns-then-id_among c =
     sym
-    (late c.before.before.before.before{-?place-}
+    (late c.args.limits c.args.plan c.args.id c.args.n c.args.ramp c.args.safe c.args.floats c.args.words.now
+    c.node_growth.ensures c.limits_answer.ensures c.in_default.is c.shorter.ensures c.shorter-2.ensures c.if-shorter.false
     ∙ rw (le-ltb _ _ c.if-n-gt-MAX.false, sym c.id_among.ensures ∙ c.if-id_among.true) (sym c.refused-then-id_among.ensures))
 
 pub returns-then-ramp-gt-MAX_RAMP : goal.returns-then-ramp-gt-MAX_RAMP
 unfolding node_answer
 returns-then-ramp-gt-MAX_RAMP c =
     sym
-    (late c.before.before.before.before.before{-?place-}
+    (late c.args.limits c.args.plan c.args.id c.args.n c.args.ramp c.args.safe c.args.floats c.args.words.now
+    c.node_growth.ensures c.limits_answer.ensures c.in_default.is c.shorter.ensures c.shorter-2.ensures c.if-shorter.false
     ∙ rw (le-ltb _ _ c.if-n-gt-MAX.false, sym c.id_among.ensures ∙ c.if-id_among.false, lt-ltb _ _ c.if-ramp-gt-MAX_RAMP.true) (sym c.refused-then-ramp-gt-MAX_RAMP.ensures))
 
 pub returns-then-safe-gt-MAX_SAFE : goal.returns-then-safe-gt-MAX_SAFE
 unfolding node_answer
 returns-then-safe-gt-MAX_SAFE c =
     sym
-    (late c.before.before.before.before.before.before{-?place-}
+    (late c.args.limits c.args.plan c.args.id c.args.n c.args.ramp c.args.safe c.args.floats c.args.words.now
+    c.node_growth.ensures c.limits_answer.ensures c.in_default.is c.shorter.ensures c.shorter-2.ensures c.if-shorter.false
     ∙ rw (
       le-ltb _ _ c.if-n-gt-MAX.false,
       sym c.id_among.ensures ∙ c.if-id_among.false,
@@ -109,7 +120,8 @@ pub returns : goal.returns
 unfolding node_answer
 returns c =
     sym
-    (late c.before.before.before.before.before{-?place-}
+    (late c.args.limits c.args.plan c.args.id c.args.n c.args.ramp c.args.safe c.args.floats c.args.words.now
+    c.node_growth.ensures c.limits_answer.ensures c.in_default.is c.shorter.ensures c.shorter-2.ensures c.if-shorter.false
     ∙ rw (
       le-ltb _ _ c.if-n-gt-MAX.false,
       sym c.id_among.ensures ∙ c.if-id_among.false,

@@ -1,24 +1,31 @@
 -- `builder_answers::step_answer` meets its contract. Assumes nothing.
 use mathlib.Core.Path.{◌≡◌, sym, ap, ◌∙◌}
-use mathlib.Core.Bool.{true, false}
+use mathlib.Core.Bool.{Bool, true, false}
+use mathlib.Core.List.{List}
 use Prim.Native.Nat.{ℕ}
 use Rattle.refusal.specs.Tests.{first}
+use Rattle.refusal.specs.declared.Answer.{Answer}
 use Rattle.refusal.specs.declared.Answer.TheVariants.{Accepted}
+use Rattle.plan.specs.declared.Plan.{Plan}
+use Rattle.plan.specs.declared.Limits.{Limits}
 use Rattle.plan.specs.Words.{read_at}
 use Rattle.builder.specs.declared.Change.TheVariants.{Add}
-use Rattle.builder.specs.Growth.{over, grows_past, step_growth}
+use Rattle.builder.specs.declared.Growth.{Growth}
+use Rattle.builder.specs.Growth.{limit_tests, over, grows_past, step_growth}
 use Rattle.builder.specs.Calls.{record_length, lent_steps, unreadable, wide, step_own, step_answer}
 use Rattle.builder.proofs.Uses.{step_past}
 use Rattle.builder.proofs.Limits.{limits_say, growth_refused, growth_short, growth_own}
 use Rattle.builder_answers.proofs.step_answer.Goals as goal
 
-late : (c : tie.Else1) → step_answer c.before.before.before.before.before.before.before.before.args.limits c.before.before.before.before.before.before.before.before.args.plan c.before.before.before.before.before.before.before.before.args.words.now c.before.before.before.before.before.before.before.before.args.len ≡ first (step_own c.before.before.before.before.before.before.before.before.args.words.now) Accepted
+-- past the limits and the area, its own tests answer
+late : (l : Limits) (p : Plan) (w : List ℕ) (len n : ℕ) {made : Growth} {a : Answer} {x : Bool}
+    → n ≡ record_length w → made ≡ step_growth n → a ≡ first (limit_tests l p made) Accepted → a ≡ Accepted
+    → x ≡ over len p.words (Add n) → x ≡ false → step_answer l p w len ≡ first (step_own w) Accepted
 unfolding step_answer
-late c =
-    let a = c.before.before.before.before.before.before.before.before.args in
-    growth_own a.limits a.plan (step_growth (record_length a.words.now)) (lent_steps a.len) (step_own a.words.now)
-    (limits_say a.limits a.plan (step_growth (record_length a.words.now)) (c.before.before.before.before.before.step_growth.ensures ∙ ap step_growth c.before.before.before.before.before.before.record_length.ensures.0) c.before.before.before.before.limits_answer.ensures c.before.before.enum_told.given.1)
-    (step_past a.limits a.plan (record_length a.words.now) a.len ∙ ap (λ (k : ℕ). over a.len a.plan.words (Add k)) (sym c.before.before.before.before.before.before.record_length.ensures.0) ∙ sym c.before.past.ensures ∙ c.if1.false)
+late l p w len n k m e f s none =
+    growth_own l p (step_growth (record_length w)) (lent_steps len) (step_own w)
+    (limits_say l p (step_growth (record_length w)) (m ∙ ap step_growth k) e f)
+    (step_past l p (record_length w) len ∙ ap (λ (k : ℕ). over len p.words (Add k)) (sym k) ∙ sym s ∙ none)
 
 pub returns-in-Refused : goal.returns-in-Refused
 unfolding step_answer
@@ -44,7 +51,8 @@ pub returns-in_default-read_step : goal.returns-in_default-read_step
 unfolding step_answer
 returns-in_default-read_step c =
     let u : unreadable (read_at c.args.words.now 0) ≡ true = ap unreadable (sym c.read_step.ensures ∙ c.in_default-read_step.is) in
-    sym (late c.before.before.before.before{-?place-} ∙ rw u (sym c.refused-in_default-read_step.ensures))
+    sym (late c.args.limits c.args.plan c.args.words.now c.args.len c.record_length-n.result
+    c.record_length-n.ensures.0 c.step_growth.ensures c.limits_answer.ensures c.in_default.is c.past.ensures c.if-past.false ∙ rw u (sym c.refused-in_default-read_step.ensures))
 
 pub returns-then-step_wide : goal.returns-then-step_wide
 unfolding step_answer
@@ -52,7 +60,8 @@ returns-then-step_wide c =
     let f = sym c.read_step.ensures ∙ c.in-Found.is in
     let u : unreadable (read_at c.args.words.now 0) ≡ false = ap unreadable f in
     let w : wide (read_at c.args.words.now 0) ≡ true = ap wide f ∙ sym c.step_wide.ensures ∙ c.if-step_wide.true in
-    sym (late c.before.before.before.before.before.before.before{-?place-} ∙ rw (u, w) (sym c.refused-then-step_wide.ensures))
+    sym (late c.args.limits c.args.plan c.args.words.now c.args.len c.record_length-n.result
+    c.record_length-n.ensures.0 c.step_growth.ensures c.limits_answer.ensures c.in_default.is c.past.ensures c.if-past.false ∙ rw (u, w) (sym c.refused-then-step_wide.ensures))
 
 pub returns : goal.returns
 unfolding step_answer
@@ -60,4 +69,5 @@ returns c =
     let f = sym c.read_step.ensures ∙ c.in-Found.is in
     let u : unreadable (read_at c.args.words.now 0) ≡ false = ap unreadable f in
     let w : wide (read_at c.args.words.now 0) ≡ false = ap wide f ∙ sym c.step_wide.ensures ∙ c.if-step_wide.false in
-    sym (late c.before.before.before.before.before.before{-?place-} ∙ rw (u, w))
+    sym (late c.args.limits c.args.plan c.args.words.now c.args.len c.record_length-n.result
+    c.record_length-n.ensures.0 c.step_growth.ensures c.limits_answer.ensures c.in_default.is c.past.ensures c.if-past.false ∙ rw (u, w))
