@@ -6,9 +6,9 @@ use Rattle.format_balance.proofs.Answers.{gains_17, gains_pair}
 use Rattle.format_balance.proofs.balance_gains.Goals as goal
 
 pub returns-then-not-finite : goal.returns-then-not-finite
-returns-then-not-finite c = ap Refused c.of.ensures ∙ sym (gains_17 _ (ap not (sym c.finite.ensures) ∙ c.if-not-finite.true))
+returns-then-not-finite c = ap Refused c.of.ensures ∙ sym (gains_17 _ (ap not (sym c.finite.ensures ∙ c.if-not-finite.true)))
 
 pub returns : goal.returns
 returns c =
-    let e = gains_pair c.args.b (ap not (sym c.finite.ensures) ∙ c.if-not-finite.false) in
+    let e = gains_pair c.args.b (ap not (sym c.finite.ensures ∙ c.if-not-finite.false)) in
     cc e

@@ -39,13 +39,13 @@ unfolding balance_area
 returns-then-not-finite c =
     let a = c.args in
     returned_refused (answer a.format a.b a.out.now) (new a.format a.b a.out.now) a.out.now (refusal out_of_range 0) _
-    (balance_17 a.format a.b (length a.out.now) c.if-format-ge-COUNT.false (ap not (sym c.finite.ensures) ∙ c.if-not-finite.true)) c.refused-then-not-finite.ensures
+    (balance_17 a.format a.b (length a.out.now) c.if-format-ge-COUNT.false (ap not (sym c.finite.ensures ∙ c.if-not-finite.true))) c.refused-then-not-finite.ensures
 
 pub returns-then-out-n : goal.returns-then-out-n
 unfolding balance_area
 returns-then-out-n c =
     let a = c.args in
-    let e = ap not (sym c.finite.ensures) ∙ c.if-not-finite.false in
+    let e = ap not (sym c.finite.ensures ∙ c.if-not-finite.false) in
     let l : length a.out.now < channels a.format = omega (arith, c.channels-n.ensures) in
     returned_refused (answer a.format a.b a.out.now) (new a.format a.b a.out.now) a.out.now (refusal short_area 0) _ (balance_2 a.format a.b (length a.out.now) c.if-format-ge-COUNT.false e l) c.refused-then-out-n.ensures
 
@@ -53,7 +53,7 @@ pub returns : goal.returns
 unfolding balance_area
 returns c =
     let a = c.args in
-    let e = ap not (sym c.finite.ensures) ∙ c.if-not-finite.false in
+    let e = ap not (sym c.finite.ensures ∙ c.if-not-finite.false) in
     let l : channels a.format ≤ length a.out.now = omega (arith, c.channels-n.ensures, c.if-out-n.false) in
     let last = c.put_gains.new.out in
     returned_accepted (answer a.format a.b a.out.now) (new a.format a.b a.out.now) a.out.now last

@@ -1,26 +1,23 @@
 use mathlib.Core.Path.{◌≡◌, refl, ap, ◌∙◌}
 use mathlib.Core.List.{List}
-use Prim.Native.Nat.{ℕ, ◌≤◌}
+use Prim.Native.Nat.{ℕ}
 use native.Mathlib.Omega.{arith}
 use lib.Ieee.{Float}
 use lib.ListN.{length, get_or, set}
 use Rattle.lists.proofs.Filled.{filled, filled_more, length_filled, filled_all}
 use Rattle.format.specs.Formats.{labels, channels, label_of}
-use Rattle.format_balance.specs.Balance.{of_side, gains_of}
+use Rattle.format_balance.specs.Balance.{gains_of}
 use Rattle.format_balance.proofs.put_gains.Invariants.{gain}
 use Rattle.format_balance.proofs.put_gains.Goals as goal
-
-passed : (c : tie.At-loop invariant-loop decreases-loop) → c.loop.c ≤ length (labels c.before.before.args.format)
-unfolding channels
-passed c = omega arith
 
 pub loop-c-init : goal.loop-c-init
 loop-c-init c = (omega arith, refl)
 
 pub bounds-out-c : goal.bounds-out-c
+unfolding channels
 bounds-out-c c =
     let kept : length c.loop-c.out ≡ length c.args.out.now = ap length c.loop-c.invariant.1
-    ∙ length_filled (gain c.args.left c.args.right) (labels c.args.format) c.loop-c.c c.args.out.now (passed c{-?place-}) (omega arith) in
+    ∙ length_filled (gain c.args.left c.args.right) (labels c.args.format) c.loop-c.c c.args.out.now (omega arith) (omega arith) in
     omega (arith, kept)
 
 pub loop-c-preserved : goal.loop-c-preserved
@@ -34,9 +31,10 @@ loop-c-preserved c = let f = gain c.args.left c.args.right in
     )
 
 pub shape_of-out : goal.shape_of-out
+unfolding channels
 shape_of-out c =
     let kept : length c.loop-c.out ≡ length c.args.out.now = ap length c.loop-c.invariant.1
-    ∙ length_filled (gain c.args.left c.args.right) (labels c.args.format) c.loop-c.c c.args.out.now (passed c{-?place-}) (omega arith) in
+    ∙ length_filled (gain c.args.left c.args.right) (labels c.args.format) c.loop-c.c c.args.out.now (omega arith) (omega arith) in
     kept
 
 pub returns : goal.returns

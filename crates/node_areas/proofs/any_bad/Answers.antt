@@ -1,6 +1,5 @@
 use native.Mathlib.Omega.{arith}
 use mathlib.Core.Path.{◌≡◌, refl, sym, ap, ◌∙◌}
-use mathlib.Core.Bool.{false}
 use borrow.Author.Rules.{rules}
 use Rattle.node.specs.Areas.{is_bad, some_bad}
 use Rattle.node.proofs.Bad.{none_bad_more, some_bad_lem}

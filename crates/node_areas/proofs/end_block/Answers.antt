@@ -31,6 +31,6 @@ returns c =
     let a = c.args in
     let e = c.finish_block.ensures ∙ ap (λ (m : Node). finish_block m a.block) c.load-node.ensures in
     let s = c.store.ensures in record {
-      floats = s.0 ∙ ap (stored_floats a.floats.now a.n) e;
-      words = s.1 ∙ ap (stored_words a.words.now a.n) e;
+      floats = s.floats ∙ ap (stored_floats a.floats.now a.n) e;
+      words = s.words ∙ ap (stored_words a.words.now a.n) e;
     }

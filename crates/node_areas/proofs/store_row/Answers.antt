@@ -17,7 +17,7 @@ pub loop-i-preserved : goal.loop-i-preserved
 loop-i-preserved c =
     let l = c.loop-i in
     let a = c.args in
-    let row = a.t1 in
+    let row = a.row in
     let h : length row ≡ max_values = search rules in (
       search rules,
       simp length-set (omega arith),
@@ -29,6 +29,6 @@ pub returns : goal.returns
 returns c =
     let l = c.loop-i in
     let a = c.args in
-    let row = a.t1 in
+    let row = a.row in
     let h : length row ≡ max_values = search rules in
     l.invariant.2 ∙ ap (sets a.floats.now a.at) (take_all l.i row (omega arith))
