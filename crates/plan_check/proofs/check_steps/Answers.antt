@@ -48,8 +48,7 @@ loop-i-preserved c =
     let e = c.step_channels.ensures in
     rw e.0
     (counting_more a.words.now a.plan.steps c.loop-i.total c.loop-i.at c.loop-i.i c.loop-i.invariant.0 c.loop-i-test.true
-    (sym c.read_step.ensures ∙ c.in-Found.is) (rw e.0 at e.1)) in
-    (
+    (sym c.read_step.ensures ∙ c.in-Found.is) (rw e.0 at e.1)) in (
       next_of,
       c.loop-i.invariant.1
           ∙ turn_on _ _ _ _ _ (rest_of c.loop-i-test.true) (sym c.read_step.ensures ∙ c.in-Found.is)
