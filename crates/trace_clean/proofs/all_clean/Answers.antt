@@ -1,6 +1,5 @@
 use mathlib.Core.Path.{sym, ◌∙◌}
 use native.Mathlib.Omega.{arith}
-use borrow.Author.Tests.{not-true, not-false}
 use Rattle.trace_clean.proofs.Cleaning.{cleaning_starts, cleaning_fits, cleaning_no, cleaning_on, cleaning_bad, cleaning_ends}
 use Rattle.trace_clean.proofs.all_clean.Goals as goal
 
@@ -23,7 +22,7 @@ pub returns-then-not-clean_step : goal.returns-then-not-clean_step
 returns-then-not-clean_step c =
     let a = c.args in
     let t = c.clean_step in
-    cleaning_no a.plan a.indices.now a.steps.now c.loop-i.invariant c.loop-i-test.true (sym c.read_step.ensures ∙ c.in-Found.is) (sym t.ensures ∙ not-true t.result c.if-not-clean_step.true)
+    cleaning_no a.plan a.indices.now a.steps.now c.loop-i.invariant c.loop-i-test.true (sym c.read_step.ensures ∙ c.in-Found.is) (sym t.ensures ∙ c.if-not-clean_step.true)
 
 pub written-set-requires : goal.written-set-requires
 written-set-requires c =
@@ -37,7 +36,7 @@ pub loop-i-preserved : goal.loop-i-preserved
 loop-i-preserved c =
     let a = c.args in
     let t = c.clean_step in
-    cleaning_on a.plan a.indices.now a.steps.now c.loop-i.invariant c.loop-i-test.true (sym c.read_step.ensures ∙ c.in-Found.is) c.written-set.result (sym t.ensures ∙ not-false t.result c.if-not-clean_step.false) c.written-set.ensures
+    cleaning_on a.plan a.indices.now a.steps.now c.loop-i.invariant c.loop-i-test.true (sym c.read_step.ensures ∙ c.in-Found.is) c.written-set.result (sym t.ensures ∙ c.if-not-clean_step.false) c.written-set.ensures
 
 pub returns : goal.returns
 returns c =

@@ -1,5 +1,4 @@
 use mathlib.Core.Path.{sym, ◌∙◌}
-use borrow.Author.Tests.{not-true, not-false}
 use Rattle.sets.specs.Sets.{member}
 use Rattle.trace_clean.proofs.Cleaning.{scanning_starts, scanning_no, scanning_on, scanning_ends}
 use Rattle.trace_clean.proofs.all_in.Goals as goal
@@ -11,13 +10,13 @@ pub returns-then-not-has : goal.returns-then-not-has
 returns-then-not-has c =
     let a = c.args in
     let t = c.has in
-    scanning_no (member a.set) a.list.now c.loop-k.invariant c.loop-k-test.true (sym t.ensures ∙ not-true t.result c.if-not-has.true)
+    scanning_no (member a.set) a.list.now c.loop-k.invariant c.loop-k-test.true (sym t.ensures ∙ c.if-not-has.true)
 
 pub loop-k-preserved : goal.loop-k-preserved
 loop-k-preserved c =
     let a = c.args in
     let t = c.has in
-    scanning_on (member a.set) a.list.now c.loop-k.invariant c.loop-k-test.true (sym t.ensures ∙ not-false t.result c.if-not-has.false)
+    scanning_on (member a.set) a.list.now c.loop-k.invariant c.loop-k-test.true (sym t.ensures ∙ c.if-not-has.false)
 
 pub returns : goal.returns
 returns c = let a = c.args in scanning_ends (member a.set) a.list.now c.loop-k.invariant c.loop-k-test.false

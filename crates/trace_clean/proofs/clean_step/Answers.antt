@@ -1,5 +1,6 @@
 -- `trace_clean::clean_step` meets its contract, kind by kind. Assumes nothing.
 use mathlib.Core.Path.{refl, sym, ap₂}
+use mathlib.Core.Bool.{◌&&◌}
 use lib.Dec.{leb}
 use Rattle.sets.specs.Sets.{member}
 use Rattle.plan.proofs.Spans.{names_length}
@@ -30,11 +31,10 @@ pub returns-in-Gain : goal.returns-in-Gain
 unfolding clean_step
 returns-in-Gain c =
     let a = c.args in
-    let k = c.step-1.given in
-    let h = placed_as a.plan a.indices.now k.1 c.requires in
-    let src = names_length a.plan a.indices.now k.0.1.0 h.1 in
-    let dst = names_length a.plan a.indices.now k.0.1.1.0 h.2 in
-    clean_as a.plan a.indices.now (member a.set) k.1 (ap₂ ◌&&◌ (ap₂ leb (sym dst) (sym src)) c.span_in.ensures)
+    let h = placed_as a.plan a.indices.now c.in-Gain.is c.requires in
+    let src = names_length a.plan a.indices.now c.in-Gain.src h.1 in
+    let dst = names_length a.plan a.indices.now c.in-Gain.dst h.2 in
+    clean_as a.plan a.indices.now (member a.set) c.in-Gain.is (ap₂ ◌&&◌ (ap₂ leb (sym dst) (sym src)) c.span_in.ensures)
 
 pub returns-in-Matrix : goal.returns-in-Matrix
 unfolding clean_step

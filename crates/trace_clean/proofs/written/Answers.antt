@@ -32,9 +32,8 @@ pub returns-in-Patch : goal.returns-in-Patch
 unfolding written_after
 returns-in-Patch c =
     let a = c.args in
-    let k = c.step-1.given in
-    written_as a.plan a.indices.now (member a.set) k.1 c.with.result
-    (λ b. c.with.ensures b ∙ or_comm (member a.set b) (eqb b k.0.1.1.0))
+    written_as a.plan a.indices.now (member a.set) c.in-Patch.is c.with.result
+    (λ b. c.with.ensures b ∙ or_comm (member a.set b) (eqb b c.in-Patch.dst))
 
 pub returns-in-Gain : goal.returns-in-Gain
 unfolding written_after

@@ -23,8 +23,8 @@ loop-k-preserved c =
     let a = c.args in
     let t = c.store in
     let d = get_or a.dst.now c.loop-k.k 0 in
-    changing_on (joined a.set) (joined_twice a.set) c.loop-k.invariant t.new.0 c.loop-k-test.true t.auto.0
-    (joined_stored c.loop-k.area t.new.0 d a.set c.load-own.result c.union.result c.load-own.ensures c.union.ensures t.ensures)
+    changing_on (joined a.set) (joined_twice a.set) c.loop-k.invariant t.new.area c.loop-k-test.true t.auto.area
+    (joined_stored c.loop-k.area t.new.area d a.set c.load-own.result c.union.result c.load-own.ensures c.union.ensures t.ensures)
 
 pub shape_of-area : goal.shape_of-area
 shape_of-area c = c.loop-k.invariant.kept

@@ -17,7 +17,7 @@ pub loop-k-preserved : goal.loop-k-preserved
 loop-k-preserved c =
     let a = c.args in
     let t = c.store in
-    changing_on (other a.set) (other_twice a.set) c.loop-k.invariant t.new.0 c.loop-k-test.true t.auto.0 t.ensures
+    changing_on (other a.set) (other_twice a.set) c.loop-k.invariant t.new.area c.loop-k-test.true t.auto.area t.ensures
 
 pub shape_of-area : goal.shape_of-area
 shape_of-area c = c.loop-k.invariant.kept

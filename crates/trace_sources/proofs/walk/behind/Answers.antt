@@ -14,6 +14,6 @@ pub returns : goal.returns
 returns c =
     let a = c.args in
     let w = c.walk.ensures in record {
-      count = w.0;
-      sets = λ s i. w.1 s i ∙ ap (λ (f : ℕ → ℕ → Bool). sources_of a.slots.now s i || behind s f (map (resolved a.plan a.indices.now []) (decoded a.steps.now a.plan.steps)) i) (zeros area_words);
+      count = w.count;
+      sets = λ s i. w.sets s i ∙ ap (λ (f : ℕ → ℕ → Bool). sources_of a.slots.now s i || behind s f (map (resolved a.plan a.indices.now []) (decoded a.steps.now a.plan.steps)) i) (zeros area_words);
     }

@@ -4,14 +4,14 @@ use mathlib.Core.Bool.{Bool, ◌||◌, or-false}
 use native.Mathlib.Omega.{arith}
 use Rattle.trace_sources.specs.Loops.{sources_of}
 use Rattle.trace_sources.proofs.Stored.{joined_stored}
-use Rattle.trace_sources.proofs.Walking.{no_output, joins_none, joins_stored, fit_as}
+use Rattle.trace_sources.proofs.Walking.{joins_none, joins_stored, fit_as}
 use Rattle.trace_sources.proofs.walk.join.Goals as goal
 
 pub returns-in_default : goal.returns-in_default
 returns-in_default c s i =
     let a = c.args in
     let own = sources_of a.slots.now s i in
-    sym (ap (λ (b : Bool). own || b) (joins_none a.plan a.indices.now s (sources_of a.area.now) a.step (no_output c.in_default.in_default-own.keys2) i) ∙ or-false own)
+    sym (ap (λ (b : Bool). own || b) (joins_none a.plan a.indices.now s (sources_of a.area.now) a.step c.in_default.not-Output i) ∙ or-false own)
 
 pub load-own-requires : goal.load-own-requires
 load-own-requires c = omega (arith, (fit_as c.in-Output.is c.requires.0).inside.1, c.requires.1)
@@ -27,10 +27,9 @@ store-requires c = omega (arith, (fit_as c.in-Output.is c.requires.0).inside.1, 
 pub returns : goal.returns
 returns c s i =
     let a = c.args in
-    let k = c.step-1.given in
     let own = c.load-own in
     let more = c.behind_span in
     let set = c.union-set in
     let t = c.store in
-    joined_stored a.slots.now t.new.0 k.0.1.0 more.result own.result set.result own.ensures set.ensures t.ensures s i
-    ∙ joins_stored a.plan a.indices.now s (sources_of a.area.now) k.0.0 k.0.1.0 k.1 more.result more.ensures i (sources_of a.slots.now s i)
+    joined_stored a.slots.now t.new.area c.in-Output.slot more.result own.result set.result own.ensures set.ensures t.ensures s i
+    ∙ joins_stored a.plan a.indices.now s (sources_of a.area.now) c.in-Output.src c.in-Output.slot c.in-Output.is more.result more.ensures i (sources_of a.slots.now s i)

@@ -41,7 +41,7 @@ loop-i-preserved c =
     let j = c.join in
     let n = c.spread in
     walking_on a.plan a.indices.now a.steps.now a.area.now a.slots.now c.loop-i.invariant c.loop-i-test.true (sym c.read_step.ensures ∙ c.in-Found.is)
-    n.new.1.1.0 j.new.1.1.1.0 c.with_slot-count.result j.ensures j.auto.1.1.1.0 n.ensures n.auto.1.1.0 c.with_slot-count.ensures
+    n.new.area j.new.slots c.with_slot-count.result j.ensures j.auto.slots n.ensures n.auto.area c.with_slot-count.ensures
 
 pub shape_of-area : goal.shape_of-area
 shape_of-area c = c.loop-i.invariant.room ∙ sym c.requires.1
