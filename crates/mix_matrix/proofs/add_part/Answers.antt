@@ -24,7 +24,7 @@ returns c =
       by_index = λ i h.
           part_mixed (plus_scaled a.g) (plus_scaled g.result) a.j a.p a.m a.area.now a.t.now (search rules) (search rules)
           (λ i h x y. ap (λ (v : Float). add binary32 y (mul binary32 x v)) (g.ensures i h))
-          c.add_samples.ensures.1
+          c.add_samples.ensures.y_after
           i
           h
           ∙ is_added a.g (a.j + i) (get_or a.area.now (a.p + i) nan) (get_or a.t.now i nan) (sym c.is_silent.ensures ∙ c.if-is_silent.false);

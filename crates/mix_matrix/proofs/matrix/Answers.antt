@@ -22,8 +22,8 @@ matrix_row-requires c =
     let l = c.loop-r in
     let p = c.requires in
     let h = ends_before {i = c.loop-r.r} {j = length c.args.dst.now} (length c.args.src.now) c.loop-r-test.true in record {
-      values = record { curs = omega (arith, p.1.curs); steps = omega (arith, p.1.steps); targets = omega (arith, p.1.targets) };
-      row = row_of l.invariant.1 p.0 l.r c.loop-r-test.true;
+      values = record { curs = omega (arith, p.values.curs); steps = omega (arith, p.values.steps); targets = omega (arith, p.values.targets) };
+      row = row_of l.invariant.1 p.buffers l.r c.loop-r-test.true;
     }
 
 pub loop-r-preserved : goal.loop-r-preserved

@@ -24,8 +24,8 @@ pub sum_two-requires : goal.sum_two-requires
 sum_two-requires c =
     let p = c.requires in
     let n = c.if-src-eq2.true in record {
-      pair = pair_of refl p.1 0 (omega arith);
-      pair_2 = pair_of refl p.1 1 (omega arith);
+      pair = pair_of refl p.row 0 (omega arith);
+      pair_2 = pair_of refl p.row 1 (omega arith);
     }
 
 pub returns-then-a-b : goal.returns-then-a-b

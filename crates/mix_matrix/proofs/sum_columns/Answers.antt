@@ -18,17 +18,17 @@ overflow_add-s c = omega (arith, c.requires.all_inside c.loop-c.c c.loop-c-test.
 
 pub add_part-requires : goal.add_part-requires
 add_part-requires c = record {
-      m_in_bounds = (omega (arith, c.requires.all_inside c.loop-c.c c.loop-c-test.true), search rules);
-      m_bound = (search rules, search rules);
-    }
+  m_in_bounds = (omega (arith, c.requires.all_inside c.loop-c.c c.loop-c-test.true), search rules);
+  m_bound = (search rules, search rules);
+}
 
 pub loop-c-preserved : goal.loop-c-preserved
 loop-c-preserved c =
     let a = c.args in
     let l = c.loop-c in (
       search rules,
-      c.add_part.ensures.0,
-      column_done a.block (gain_at a.cur.now a.step.now a.target.now a.left) a.v a.src.now a.area.now a.j a.m a.t.now l.c _ l.t _ (search rules) c.of-g.ensures l.invariant.2 c.add_part.ensures.1,
+      c.add_part.ensures.t_len,
+      column_done a.block (gain_at a.cur.now a.step.now a.target.now a.left) a.v a.src.now a.area.now a.j a.m a.t.now l.c _ l.t _ (search rules) c.of-g.ensures l.invariant.2 c.add_part.ensures.by_index,
     )
 
 pub returns : goal.returns

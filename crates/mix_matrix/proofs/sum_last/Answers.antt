@@ -14,9 +14,9 @@ pub sum_piece-requires : goal.sum_piece-requires
 sum_piece-requires c =
     let l = c.loop-j in
     let p = c.requires in record {
-      values = p.0;
-      m_bound = (omega arith, p.1.0.small, omega arith, omega (arith, p.1.0.target));
-      all_inside = λ i h. omega (arith, p.1.0.sources i h);
+      values = p.values;
+      m_bound = (omega arith, p.row.0.small, omega arith, omega (arith, p.row.0.target));
+      all_inside = λ i h. omega (arith, p.row.0.sources i h);
     }
 
 pub loop-j-preserved : goal.loop-j-preserved

@@ -10,14 +10,14 @@ use Rattle.mix_matrix.proofs.sum_piece.Goals as goal
 
 pub sum_columns-requires : goal.sum_columns-requires
 sum_columns-requires c = let p = c.requires in record {
-      values = p.0;
-      m_bound = (p.1.0.0, p.1.0.1, p.1.0.2, search rules);
-      all_inside = p.1.1;
-    }
+  values = p.values;
+  m_bound = (p.m_bound.0, p.m_bound.1, p.m_bound.2, search rules);
+  all_inside = p.all_inside;
+}
 
 pub returns : goal.returns
 returns c =
     let a = c.args in
     let f : ℕ → Float → Float = λ k. row_sample a.block (gain_at a.cur.now a.step.now a.target.now a.left) a.v a.src.now a.area.now (a.j + k) in
     samples_stored (λ k. f k silence) a.area.now (a.d * a.block + a.j) a.m c.store.ensures
-    (from_silence f a.m (search rules) c.sum_columns.ensures.1)
+    (from_silence f a.m (search rules) c.sum_columns.ensures.by_index)

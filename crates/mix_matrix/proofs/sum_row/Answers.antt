@@ -15,9 +15,9 @@ pub sum_piece-requires : goal.sum_piece-requires
 sum_piece-requires c =
     let l = c.loop-i in
     let p = c.requires in record {
-      values = p.0;
-      m_bound = (omega arith, search rules, omega arith, omega (arith, p.1.target));
-      all_inside = λ j h. omega (arith, p.1.sources j h);
+      values = p.values;
+      m_bound = (omega arith, search rules, omega arith, omega (arith, p.row.target));
+      all_inside = λ j h. omega (arith, p.row.sources j h);
     }
 
 pub loop-i-preserved : goal.loop-i-preserved
@@ -36,9 +36,9 @@ returns-then-r-block c =
 
 pub sum_last-requires : goal.sum_last-requires
 sum_last-requires c = let p = c.requires in record {
-      values = p.0;
-      row = (row_kept c.loop-i.invariant.1 p.1, omega arith);
-    }
+  values = p.values;
+  row = (row_kept c.loop-i.invariant.1 p.row, omega arith);
+}
 
 pub returns : goal.returns
 returns c =

@@ -7,7 +7,7 @@ use Rattle.mix.proofs.Pieces.{LastStored}
 use Rattle.mix_matrix.proofs.sum_two_last.Given as goal
 
 abbrev pub invariant-loop-i : goal.invariant-loop-i
-invariant-loop-i l = (l.i ≤ l.m) × LastStored (λ l.k x y. plus_scaled (Rest l.a) l.k x silence) (plus_scaled (Rest l.b)) l.from l.other l.to l.k l.initial.area l.i l.area
+invariant-loop-i l = (l.i ≤ l.m) × LastStored (λ k x y. plus_scaled (Rest l.a) k x silence) (plus_scaled (Rest l.b)) l.from l.other l.to l.k l.initial.area l.i l.area
 
 abbrev pub decreases-loop-i : goal.decreases-loop-i
 decreases-loop-i l = l.m - l.i

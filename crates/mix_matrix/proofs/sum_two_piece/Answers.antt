@@ -8,7 +8,7 @@ pub returns : goal.returns
 returns c =
     let a = c.args in
     let p = c.requires in
-    piece_new (plus_scaled (Rest a.a)) (plus_scaled (Rest a.b)) a.from a.other a.to a.m a.k a.area.now p.0.source p.1.source p.0.short
-    c.add_samples.ensures.1
-    c.add_samples-2.ensures.1
+    piece_new (plus_scaled (Rest a.a)) (plus_scaled (Rest a.b)) a.from a.other a.to a.m a.k a.area.now p.piece.source p.piece_2.source p.piece.short
+    c.add_samples.ensures.y_after
+    c.add_samples-2.ensures.y_after
     c.store.ensures

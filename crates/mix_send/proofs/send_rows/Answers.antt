@@ -12,8 +12,8 @@ use Rattle.mix_send.proofs.send_rows.Goals as goal
 pub send_four-requires : goal.send_four-requires
 send_four-requires c =
     let p = c.requires in record {
-      buffers = p.0;
-      four = (c.is_four.ensures c.if-is_four.true, rw c.in-Rest.is at p.1.1);
+      buffers = p.buffers;
+      four = (c.is_four.ensures c.if-is_four.true, rw c.in-Rest.is at p.src_in_bounds.1);
     }
 
 pub returns-in-Rest : goal.returns-in-Rest
@@ -34,8 +34,8 @@ pub send_row-requires : goal.send_row-requires
 send_row-requires c =
     let l = c.loop-r in
     let p = c.requires in record {
-      row = row_of l.invariant.1 p.0 l.r c.loop-r-test.true;
-      src_in_bounds = (omega (arith, ends_before {i = c.loop-r.r} {j = length c.args.dst.now} (length c.args.src.now) c.loop-r-test.true), p.1.1);
+      row = row_of l.invariant.1 p.buffers l.r c.loop-r-test.true;
+      src_in_bounds = (omega (arith, ends_before {i = c.loop-r.r} {j = length c.args.dst.now} (length c.args.src.now) c.loop-r-test.true), p.src_in_bounds.1);
     }
 
 pub loop-r-preserved : goal.loop-r-preserved
