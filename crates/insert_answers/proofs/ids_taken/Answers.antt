@@ -1,10 +1,29 @@
-use mathlib.Core.Path.{refl, sym, ap, ◌∙◌}
-use mathlib.Core.Bool.{true, false}
+use mathlib.Core.Path.{◌≡◌, refl, sym, ap, ◌∙◌}
+use mathlib.Core.Bool.{true, false, ◌||◌}
+use mathlib.Core.List.{List}
+use Prim.Native.Nat.{ℕ, ◌+◌, ◌<◌}
+use native.Mathlib.Numerals.{add-one}
 use native.Mathlib.Omega.{arith}
-use lib.ListN.{drop_of_length-le}
+use lib.ListN.{length, get_or, drop, drop_of_length-le}
+use lib.Seq.{drop-cons}
+use Rattle.lists.specs.Entries.{has}
 use Rattle.plan.specs.Check.{id_among}
 use Rattle.builder.specs.Sums.{ids_taken}
 use Rattle.insert_answers.proofs.ids_taken.Goals as goal
+
+-- ---- a turn: the id at i
+module _ (words : List ℕ) (n : ℕ) (ids : List ℕ) (i : ℕ) (h : i < length ids) where
+  here : ids_taken words n (drop i ids) ≡ (id_among words n (get_or ids i 0) || (has (drop (i + 1) ids) (get_or ids i 0) || ids_taken words n (drop (i + 1) ids)))
+  here = rw (add-one, drop-cons ids i 0 h) refl
+
+  held : id_among words n (get_or ids i 0) ≡ true → ids_taken words n (drop i ids) ≡ true
+  held e = here ∙ rw e
+
+  again : id_among words n (get_or ids i 0) ≡ false → has (drop (i + 1) ids) (get_or ids i 0) ≡ true → ids_taken words n (drop i ids) ≡ true
+  again e f = here ∙ rw (e, f)
+
+  new : id_among words n (get_or ids i 0) ≡ false → has (drop (i + 1) ids) (get_or ids i 0) ≡ false → ids_taken words n (drop i ids) ≡ ids_taken words n (drop (i + 1) ids)
+  new e f = here ∙ rw (e, f)
 
 pub loop-i-init : goal.loop-i-init
 loop-i-init c = refl

@@ -18,21 +18,19 @@ use Rattle.builder.specs.declared.Change.TheVariants.{Add}
 use Rattle.builder.specs.declared.Growth.{Growth}
 use Rattle.builder.specs.Growth.{Lengths, lengths_of, limit_tests, too_short, grows_past}
 use Rattle.builder.proofs.Limits.{limits_say}
+use Rattle.insert.specs.declared.InsertReturn.{InsertReturn}
 use Rattle.insert.specs.Insert.{insert_growth, return_bad}
 use Rattle.insert.proofs.Answers.{insert_16, insert_18, insert_4, insert_5, insert_2, insert_8, insert_10, insert_passes_all}
 use Rattle.insert_answers.proofs.insert_answer.Goals as goal
 
-returned : (c : tie.After-return-bad) {b : Bool} → (c.before.before.before.before.before.args.insert.returns && c.return_bad.result) ≡ b
-    → (c.before.before.before.before.before.args.insert.returns && return_bad (channels c.before.before.before.before.before.args.insert.format) c.before.before.before.before.before.args.insert.back) ≡ b
-returned c e =
-    let a = c.before.before.before.before.before.args in
-    let r = c.return_bad.ensures ∙ ap (λ (n : ℕ). return_bad n a.insert.back) c.before.channels.ensures in
-    ap (λ (t : Bool). a.insert.returns && t) (sym r) ∙ e
+-- number 18, said of the format that the code has the channels of
+returned : (returns r : Bool) (n f : ℕ) (back : InsertReturn) → r ≡ return_bad n back → n ≡ channels f
+    → {b : Bool} → (returns && r) ≡ b → (returns && return_bad (channels f) back) ≡ b
+returned returns r n f back e h k = ap (λ (t : Bool). returns && t) (sym (e ∙ ap (λ (m : ℕ). return_bad m back) h)) ∙ k
 
-areas : (c : tie.After-grows-past) {b : Bool} → c.grows_past.result ≡ b → grows_past c.before.before.before.before.before.before.before.before.before.before.before.before.before.args.plan (grows c.before.before.before.before.before.before.before.before.before.before.before.before.before) (lentTo c.before.before.before.before.before.before.before.before.before.before.before.before.before) ≡ b
-areas c e =
-    let s = c.before.before.before.before.before.before.before.before.before.before.before.before.before in
-    ap (λ (g : Growth). grows_past s.args.plan g (lentTo s)) (sym (made c.before.before.before.before)) ∙ sym c.grows_past.ensures ∙ e
+-- the areas, said of the growth that the code makes
+areas : (p : Plan) (z : Lengths) (g made : Growth) (r : Bool) → g ≡ made → r ≡ grows_past p g z → {b : Bool} → r ≡ b → grows_past p made z ≡ b
+areas p z g made r e h k = ap (λ (x : Growth). grows_past p x z) (sym e) ∙ sym h ∙ k
 
 -- so the node words have room for the nodes, with or without the insert's
 roomy : (len count m : ℕ) (a b : Bool) → (a || too_short len count (Add m) node_word_count || b) ≡ false → count * node_word_count ≤ len
@@ -63,14 +61,14 @@ pub returns-then-returns-return_bad : goal.returns-then-returns-return_bad
 returns-then-returns-return_bad c =
     let known : unknown_format c.args.insert.format ≡ false = lt-leb 7 c.args.insert.format c.if-insert-ge-COUNT.false in
     c.refused-then-returns-return_bad.ensures
-    ∙ sym (insert_18 c.args.limits c.args.plan c.args.insert ((lengths_of c.args.indices c.args.coefficients c.args.floats (length c.args.words.now) c.args.steps)) c.args.words.now (known) (returned c.before.before{-?place-} c.if-returns-return_bad.true))
+    ∙ sym (insert_18 c.args.limits c.args.plan c.args.insert ((lengths_of c.args.indices c.args.coefficients c.args.floats (length c.args.words.now) c.args.steps)) c.args.words.now (known) (returned c.args.insert.returns c.return_bad.result c.channels-n.result c.args.insert.format c.args.insert.back c.return_bad.ensures c.channels-n.ensures c.if-returns-return_bad.true))
 
 pub returns-then-span_past : goal.returns-then-span_past
 returns-then-span_past c =
     let known : unknown_format c.args.insert.format ≡ false = lt-leb 7 c.args.insert.format c.if-insert-ge-COUNT.false in
     c.refused-then-span_past.ensures
     ∙ sym
-    (insert_4 c.args.limits c.args.plan c.args.insert ((lengths_of c.args.indices c.args.coefficients c.args.floats (length c.args.words.now) c.args.steps)) c.args.words.now (known) (returned c.before.before.before.before{-?place-} c.if-returns-return_bad.false)
+    (insert_4 c.args.limits c.args.plan c.args.insert ((lengths_of c.args.indices c.args.coefficients c.args.floats (length c.args.words.now) c.args.steps)) c.args.words.now (known) (returned c.args.insert.returns c.return_bad.result c.channels-n.result c.args.insert.format c.args.insert.back c.return_bad.ensures c.channels-n.ensures c.if-returns-return_bad.false)
     (sym c.span_past.ensures ∙ c.if-span_past.true))
 
 pub insert_growth-growth-requires : goal.insert_growth-growth-requires
@@ -82,7 +80,7 @@ returns-in-Refused c =
     let inside : past c.args.plan.indices c.args.insert.src ≡ false = sym c.span_past.ensures ∙ c.if-span_past.false in
     let made : c.insert_growth-growth.result ≡ (insert_growth c.args.insert.returns (channels c.args.insert.format)) = c.insert_growth-growth.ensures ∙ ap (insert_growth c.args.insert.returns) c.channels-n.ensures in
     sym
-    (insert_5 c.args.limits c.args.plan c.args.insert ((lengths_of c.args.indices c.args.coefficients c.args.floats (length c.args.words.now) c.args.steps)) c.args.words.now (known) (returned c.before.before.before.before.before.before.before.before{-?place-} c.if-returns-return_bad.false) (inside)
+    (insert_5 c.args.limits c.args.plan c.args.insert ((lengths_of c.args.indices c.args.coefficients c.args.floats (length c.args.words.now) c.args.steps)) c.args.words.now (known) (returned c.args.insert.returns c.return_bad.result c.channels-n.result c.args.insert.format c.args.insert.back c.return_bad.ensures c.channels-n.ensures c.if-returns-return_bad.false) (inside)
     c.in-Refused.r
     (limits_say c.args.limits c.args.plan ((insert_growth c.args.insert.returns (channels c.args.insert.format))) (made) c.limits_answer.ensures c.in-Refused.is))
 
@@ -95,12 +93,13 @@ returns-then-grows_past c =
     limits_say a.limits a.plan ((insert_growth c.args.insert.returns (channels c.args.insert.format))) (made) c.limits_answer.ensures c.in_default.is in
     c.refused-then-grows_past.ensures
     ∙ sym
-    (insert_2 c.args.limits c.args.plan c.args.insert ((lengths_of c.args.indices c.args.coefficients c.args.floats (length c.args.words.now) c.args.steps)) c.args.words.now (known) (returned c.before.before.before.before.before.before.before.before.before.before{-?place-} c.if-returns-return_bad.false) (inside) (within)
-    (areas c.before.before{-?place-} c.if-grows_past.true))
+    (insert_2 c.args.limits c.args.plan c.args.insert ((lengths_of c.args.indices c.args.coefficients c.args.floats (length c.args.words.now) c.args.steps)) c.args.words.now (known) (returned c.args.insert.returns c.return_bad.result c.channels-n.result c.args.insert.format c.args.insert.back c.return_bad.ensures c.channels-n.ensures c.if-returns-return_bad.false) (inside) (within)
+    (areas c.args.plan (lengths_of c.args.indices c.args.coefficients c.args.floats (length c.args.words.now) c.args.steps) c.insert_growth-growth.result (insert_growth c.args.insert.returns (channels c.args.insert.format)) c.grows_past.result made c.grows_past.ensures c.if-grows_past.true))
 
 pub insert_ids_taken-requires : goal.insert_ids_taken-requires
 insert_ids_taken-requires c =
-    room c.args.plan (channels c.args.insert.format) ((lengths_of c.args.indices c.args.coefficients c.args.floats (length c.args.words.now) c.args.steps)) c.args.insert.returns (areas c.before{-?place-} c.if-grows_past.false)
+    let made : c.insert_growth-growth.result ≡ (insert_growth c.args.insert.returns (channels c.args.insert.format)) = c.insert_growth-growth.ensures ∙ ap (insert_growth c.args.insert.returns) c.channels-n.ensures in
+    room c.args.plan (channels c.args.insert.format) ((lengths_of c.args.indices c.args.coefficients c.args.floats (length c.args.words.now) c.args.steps)) c.args.insert.returns (areas c.args.plan (lengths_of c.args.indices c.args.coefficients c.args.floats (length c.args.words.now) c.args.steps) c.insert_growth-growth.result (insert_growth c.args.insert.returns (channels c.args.insert.format)) c.grows_past.result made c.grows_past.ensures c.if-grows_past.false)
 
 pub returns-then-insert_ids_taken : goal.returns-then-insert_ids_taken
 returns-then-insert_ids_taken c =
@@ -111,8 +110,8 @@ returns-then-insert_ids_taken c =
     limits_say a.limits a.plan ((insert_growth c.args.insert.returns (channels c.args.insert.format))) (made) c.limits_answer.ensures c.in_default.is in
     c.refused-then-insert_ids_taken.ensures
     ∙ sym
-    (insert_8 c.args.limits c.args.plan c.args.insert ((lengths_of c.args.indices c.args.coefficients c.args.floats (length c.args.words.now) c.args.steps)) c.args.words.now (known) (returned c.before.before.before.before.before.before.before.before.before.before.before.before{-?place-} c.if-returns-return_bad.false) (inside) (within)
-    (areas c.before.before.before.before{-?place-} c.if-grows_past.false)
+    (insert_8 c.args.limits c.args.plan c.args.insert ((lengths_of c.args.indices c.args.coefficients c.args.floats (length c.args.words.now) c.args.steps)) c.args.words.now (known) (returned c.args.insert.returns c.return_bad.result c.channels-n.result c.args.insert.format c.args.insert.back c.return_bad.ensures c.channels-n.ensures c.if-returns-return_bad.false) (inside) (within)
+    (areas c.args.plan (lengths_of c.args.indices c.args.coefficients c.args.floats (length c.args.words.now) c.args.steps) c.insert_growth-growth.result (insert_growth c.args.insert.returns (channels c.args.insert.format)) c.grows_past.result made c.grows_past.ensures c.if-grows_past.false)
     (sym c.insert_ids_taken.ensures ∙ c.if-insert_ids_taken.true))
 
 pub returns-then-insert-gt-MAX_RAMP : goal.returns-then-insert-gt-MAX_RAMP
@@ -124,8 +123,8 @@ returns-then-insert-gt-MAX_RAMP c =
     limits_say a.limits a.plan ((insert_growth c.args.insert.returns (channels c.args.insert.format))) (made) c.limits_answer.ensures c.in_default.is in
     c.refused-then-insert-gt-MAX_RAMP.ensures
     ∙ sym
-    (insert_10 c.args.limits c.args.plan c.args.insert ((lengths_of c.args.indices c.args.coefficients c.args.floats (length c.args.words.now) c.args.steps)) c.args.words.now (known) (returned c.before.before.before.before.before.before.before.before.before.before.before.before.before.before{-?place-} c.if-returns-return_bad.false) (inside) (within)
-    (areas c.before.before.before.before.before.before{-?place-} c.if-grows_past.false)
+    (insert_10 c.args.limits c.args.plan c.args.insert ((lengths_of c.args.indices c.args.coefficients c.args.floats (length c.args.words.now) c.args.steps)) c.args.words.now (known) (returned c.args.insert.returns c.return_bad.result c.channels-n.result c.args.insert.format c.args.insert.back c.return_bad.ensures c.channels-n.ensures c.if-returns-return_bad.false) (inside) (within)
+    (areas c.args.plan (lengths_of c.args.indices c.args.coefficients c.args.floats (length c.args.words.now) c.args.steps) c.insert_growth-growth.result (insert_growth c.args.insert.returns (channels c.args.insert.format)) c.grows_past.result made c.grows_past.ensures c.if-grows_past.false)
     (sym c.insert_ids_taken.ensures ∙ c.if-insert_ids_taken.false)
     (lt-ltb _ _ c.if-insert-gt-MAX_RAMP.true))
 
@@ -137,7 +136,7 @@ returns c =
     let within : first (limit_tests c.args.limits c.args.plan ((insert_growth c.args.insert.returns (channels c.args.insert.format)))) Accepted ≡ Accepted = let a = c.args in
     limits_say a.limits a.plan ((insert_growth c.args.insert.returns (channels c.args.insert.format))) (made) c.limits_answer.ensures c.in_default.is in
     sym
-    (insert_passes_all c.args.limits c.args.plan c.args.insert ((lengths_of c.args.indices c.args.coefficients c.args.floats (length c.args.words.now) c.args.steps)) c.args.words.now (known) (returned c.before.before.before.before.before.before.before.before.before.before.before.before.before{-?place-} c.if-returns-return_bad.false) (inside) (within)
-    (areas c.before.before.before.before.before{-?place-} c.if-grows_past.false)
+    (insert_passes_all c.args.limits c.args.plan c.args.insert ((lengths_of c.args.indices c.args.coefficients c.args.floats (length c.args.words.now) c.args.steps)) c.args.words.now (known) (returned c.args.insert.returns c.return_bad.result c.channels-n.result c.args.insert.format c.args.insert.back c.return_bad.ensures c.channels-n.ensures c.if-returns-return_bad.false) (inside) (within)
+    (areas c.args.plan (lengths_of c.args.indices c.args.coefficients c.args.floats (length c.args.words.now) c.args.steps) c.insert_growth-growth.result (insert_growth c.args.insert.returns (channels c.args.insert.format)) c.grows_past.result made c.grows_past.ensures c.if-grows_past.false)
     (sym c.insert_ids_taken.ensures ∙ c.if-insert_ids_taken.false)
     (le-ltb _ _ c.if-insert-gt-MAX_RAMP.false))

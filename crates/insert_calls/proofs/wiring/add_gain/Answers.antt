@@ -25,9 +25,9 @@ returns c =
     let three = c.step-stepped in
     let rec : List ℕ = gain_map ∷ a.number ∷ a.src.start ∷ a.src.len ∷ a.dst.start ∷ a.dst.len ∷ [] in
     let start : BuilderState = builder_state a.plan a.indices.now co a.floats.now a.words.now a.steps.now in
-    step_state unit_limits _ _ _ _ _ _ rec three.ensures.1.0 three.ensures.1.1
-    ∙ ap (λ (t : BuilderState). after unit_limits t (step rec)) (buffers_state unit_limits _ _ _ _ _ _ a.dst.len two.ensures.1.0 two.ensures.1.1)
+    step_state unit_limits _ _ _ _ _ _ rec three.ensures.plan three.ensures.steps
+    ∙ ap (λ (t : BuilderState). after unit_limits t (step rec)) (buffers_state unit_limits _ _ _ _ _ _ a.dst.len two.ensures.plan two.ensures.indices)
     ∙ ap (λ (t : BuilderState). after unit_limits (after unit_limits t (buffers a.dst.len)) (step rec))
-    (node_state unit_limits _ _ _ _ _ _ a.id _ a.ramp insert_safe one.ensures.1.0 one.ensures.1.1.0 one.ensures.1.1.1)
+    (node_state unit_limits _ _ _ _ _ _ a.id _ a.ramp insert_safe one.ensures.plan one.ensures.floats one.ensures.words)
     ∙ ap (λ (xs : List Float). after unit_limits (after unit_limits (after unit_limits start (node a.id xs a.ramp insert_safe)) (buffers a.dst.len)) (step rec))
     (take_alike a.gain a.dst.len 12 c.requires)

@@ -45,8 +45,8 @@ returns c =
     let three = c.coefficients-weighed in
     let rec : List ℕ = clear_map ∷ out.result.start ∷ out.result.len ∷ [] in
     let start : BuilderState = builder_state a.plan a.indices.now a.coefficients.now fl wo a.steps.now in
-    coefficients_state unit_limits _ _ _ _ _ _ (take (n * n) square.result.entries) three.ensures.1.0 three.ensures.1.1
-    ∙ ap (λ (t : BuilderState). after unit_limits t (coefficients (take (n * n) square.result.entries))) (step_state unit_limits _ _ _ _ _ _ rec two.ensures.1.0 two.ensures.1.1)
+    coefficients_state unit_limits _ _ _ _ _ _ (take (n * n) square.result.entries) three.ensures.plan three.ensures.area
+    ∙ ap (λ (t : BuilderState). after unit_limits t (coefficients (take (n * n) square.result.entries))) (step_state unit_limits _ _ _ _ _ _ rec two.ensures.plan two.ensures.steps)
     ∙ ap (λ (t : BuilderState). after unit_limits (after unit_limits t (step rec)) (coefficients (take (n * n) square.result.entries)))
-    (buffers_state unit_limits _ _ _ _ _ _ n one.ensures.1.0 one.ensures.1.1)
+    (buffers_state unit_limits _ _ _ _ _ _ n one.ensures.plan one.ensures.indices)
     ∙ ap (wired start) (out_calls_lem p i c.channels-n.ensures out.ensures square.ensures.1)

@@ -57,6 +57,6 @@ returns c =
     wired_then start (buffers n ∷ patches (i.back.input - 1) (i.back.channel - 1) (p.buffers + n) n)
     (gain_calls i.ids.ret i.back.gain i.ramp (p.nodes + 1) raw.result ret.result)
     (wired_then start (buffers n ∷ []) (patches (i.back.input - 1) (i.back.channel - 1) (p.buffers + n) n)
-    (buffers_state unit_limits _ _ _ _ _ _ n two.ensures.1.0 two.ensures.1.1) (c.add_patches-two.ensures _ co _ _))
+    (buffers_state unit_limits _ _ _ _ _ _ n two.ensures.plan two.ensures.indices) (c.add_patches-two.ensures _ co _ _))
     (c.add_gain.ensures co)
     ∙ ap (wired start) (patched_calls_lem p i c.channels-n.ensures raw.ensures ret.ensures)

@@ -31,7 +31,7 @@ loop-k-preserved c =
         omega (arith, s.invariant.1.0),
         λ ix co fl wo.
             left_made a.input a.channel a.dst a.n s.k c.loop-k-test.true (builder_state s.grown ix co fl wo s.steps)
-            (step_state unit_limits s.grown ix co fl wo s.steps rec c.step-stepped.ensures.1.0 c.step-stepped.ensures.1.1)
+            (step_state unit_limits s.grown ix co fl wo s.steps rec c.step-stepped.ensures.plan c.step-stepped.ensures.steps)
             (s.invariant.1.1 ix co fl wo),
       ),
     )

@@ -17,6 +17,6 @@ returns c =
     let one = c.node-noded in
     let two = c.step-stepped in
     let rec : List ℕ = send_map ∷ a.number ∷ a.src.start ∷ a.src.len ∷ a.dst.start ∷ a.dst.len ∷ a.weights.start ∷ a.weights.len ∷ [] in
-    step_state unit_limits _ _ _ _ _ _ rec two.ensures.1.0 two.ensures.1.1
+    step_state unit_limits _ _ _ _ _ _ rec two.ensures.plan two.ensures.steps
     ∙ ap (λ (t : BuilderState). after unit_limits t (step rec))
-    (node_state unit_limits _ _ _ _ _ _ a.id (one32 ∷ []) a.ramp insert_safe one.ensures.1.0 one.ensures.1.1.0 one.ensures.1.1.1)
+    (node_state unit_limits _ _ _ _ _ _ a.id (one32 ∷ []) a.ramp insert_safe one.ensures.plan one.ensures.floats one.ensures.words)

@@ -26,5 +26,5 @@ returns c =
     let rec : List ℕ = output_map ∷ p.indices ∷ n ∷ i.slot ∷ [] in
     let start : BuilderState = builder_state p a.indices.now co a.floats.now a.words.now a.steps.now in
     wired_then start (gain_calls i.ids.send i.gain i.ramp p.nodes i.src (span p.indices n)) (step rec ∷ []) (c.add_gain-sent.ensures co)
-    (step_state unit_limits _ _ _ _ _ _ rec two.ensures.1.0 two.ensures.1.1)
+    (step_state unit_limits _ _ _ _ _ _ rec two.ensures.plan two.ensures.steps)
     ∙ ap (wired start) (sent_calls_lem p i c.channels-n.ensures)
