@@ -8,6 +8,7 @@ use native.Mathlib.Nat.{not-suc-le-zero, le_of_suc-le-suc, eq-or-lt_of_le}
 use native.Mathlib.Numerals.{add-one}
 use native.Mathlib.Omega.{arith}
 use borrow.Author.Tests.{eqb-true}
+use lib.Dec.{eqb}
 use lib.ListN.{length, get_or}
 use lib.Ieee.{Float, nan}
 use Rattle.lists.specs.Parts.{part}
@@ -98,7 +99,7 @@ module _ (pairs : List ℕ) (src dst : ℕ) where
   -- of an entry for the pair the gains are as many as the fold has
   pub entry_size : (i : ℕ) → entry_for pairs src dst i ≡ true → size_at pairs i ≡ channels dst * channels src
   entry_size i e =
-      let k = and_both _ _ e in
+      let k : (eqb (source_at pairs i) src ≡ true) × (eqb (destination_at pairs i) dst ≡ true) = and_both _ _ e in
       cc (eqb-true (source_at pairs i) src k.0, eqb-true (destination_at pairs i) dst k.1)
 
   module _ (gains : List Float) where

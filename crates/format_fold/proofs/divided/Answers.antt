@@ -15,8 +15,8 @@ loop-i-init c = (search rules, refl)
 
 pub loop-i-preserved : goal.loop-i-preserved
 loop-i-preserved c =
-    let full : length c.args.t1.entries ≡ 144 = search rules in
-    let xs = c.args.t1.entries in
+    let full : length c.args.m.entries ≡ 144 = search rules in
+    let xs = c.args.m.entries in
     let i = c.loop-i.i in
     let f : Float → Float = λ x. div binary64 x c.args.by in
     let n : i < length xs = omega (arith, full) in
@@ -29,8 +29,8 @@ loop-i-preserved c =
 
 pub returns : goal.returns
 returns c =
-    let full : length c.args.t1.entries ≡ 144 = search rules in
-    let xs = c.args.t1.entries in
+    let full : length c.args.m.entries ≡ 144 = search rules in
+    let xs = c.args.m.entries in
     let f : Float → Float = λ x. div binary64 x c.args.by in
     let e : c.loop-i.i ≡ length xs = omega (arith, full) in
     c.loop-i.invariant.1 ∙ ap (λ (i : ℕ). filled f xs i xs) e ∙ filled_all f xs (length xs) xs (le_refl (length xs)) ∙ ap (λ (l : List Float). map f xs ++ l) (drop-length xs) ∙ append-nil (map f xs)

@@ -2,6 +2,7 @@
 use mathlib.Core.Path.{sym, ◌∙◌}
 use lib.Ieee.{lt}
 use lib.ListN.{get_or-eq_default}
+use borrow.Author.Rules.{rules}
 use Rattle.lists.proofs.Tables.{none_of}
 use Rattle.format.specs.Floats.{zero64}
 use Rattle.format_fold.specs.Folds.{targets_of, folds_to}
@@ -80,4 +81,4 @@ pub returns-in_default : goal.returns-in_default
 unfolding folds_to
 returns-in_default c =
     let a = c.args in
-    sym (get_or-eq_default (targets_of (lt zero64 a.g.lfe) a.g a.dst) Nothing (none_of a.label 15 c.in_default.in_default-own.rest))
+    sym (get_or-eq_default (targets_of (lt zero64 a.g.lfe) a.g a.dst) Nothing (none_of a.label 15 (search rules)))

@@ -11,7 +11,7 @@ float_to_bits-result c = no_nan c.args.g c.if-g.true
 
 pub returns-then-g : goal.returns-then-g
 returns-then-g c =
-    let held : T (fits binary64 c.args.g) = subst T (sym c.well-formed.0.1{-?-}) tt in
+    let held : T (fits binary64 c.args.g) = subst T (sym c.well_formed.0.1) tt in
     by_sign binary64 c.args.g (held) c.if-g.true
 
 pub returns : goal.returns

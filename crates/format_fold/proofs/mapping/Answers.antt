@@ -16,9 +16,9 @@ loop-s-init c = (search rules, ap (λ (k : ℕ). folded_each c.args.g c.args.dst
 
 pub fold-m-requires : goal.fold-m-requires
 fold-m-requires c = let k : c.loop-s.s < channels c.args.src = omega (arith, c.channels-columns.ensures) in (
-      subst (λ (n : ℕ). n < 15) (sym c.label.ensures) (label_lt c.args.src c.loop-s.s k),
-      (c.requires, (omega arith, omega (arith, c.channels-columns.ensures, channels_le c.args.src))),
-    )
+  subst (λ (n : ℕ). n < 15) (sym c.label.ensures) (label_lt c.args.src c.loop-s.s k),
+  (c.requires, (omega arith, omega (arith, c.channels-columns.ensures, channels_le c.args.src))),
+)
 
 pub loop-s-preserved : goal.loop-s-preserved
 unfolding channels label_of

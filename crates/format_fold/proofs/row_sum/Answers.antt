@@ -13,8 +13,8 @@ loop-s-init c = (search rules, refl)
 
 pub loop-s-preserved : goal.loop-s-preserved
 loop-s-preserved c =
-    let full : length c.args.t1.entries ≡ 144 = search rules in
-    let xs = c.args.t1.entries in
+    let full : length c.args.m.entries ≡ 144 = search rules in
+    let xs = c.args.m.entries in
     let n : c.args.at + c.args.columns ≤ length xs = omega (arith, full) in
     let k : c.loop-s.s < c.args.columns = omega arith in (
       omega arith,
@@ -25,7 +25,7 @@ loop-s-preserved c =
 
 pub returns : goal.returns
 returns c =
-    let full : length c.args.t1.entries ≡ 144 = search rules in
-    let xs = c.args.t1.entries in
+    let full : length c.args.m.entries ≡ 144 = search rules in
+    let xs = c.args.m.entries in
     let n : c.args.at + c.args.columns ≤ length xs = omega (arith, full) in
     sym (row_all xs c.args.at c.args.columns n c.loop-s.s c.loop-s.sum (omega arith)) ∙ c.loop-s.invariant.1

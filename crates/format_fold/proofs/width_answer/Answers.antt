@@ -2,7 +2,6 @@
 use mathlib.Core.Path.{◌≡◌, sym, ◌∙◌}
 use Prim.Native.Nat.{◌*◌, ◌<◌, ◌≤◌}
 use native.Mathlib.Omega.{arith}
-use borrow.Author.Tests.{not-true, not-false}
 use Rattle.format.specs.Formats.{channels}
 use Rattle.format_fold.proofs.Rows.{size}
 use Rattle.format_fold.proofs.Answers.{width_src, width_dst, width_17, width_2, width_accepted}
@@ -21,7 +20,7 @@ returns-then-dst-ge-COUNT c =
 pub returns-then-not-gains_in_range : goal.returns-then-not-gains_in_range
 returns-then-not-gains_in_range c =
     let a = c.args in
-    let g = sym c.gains_in_range.ensures ∙ not-true _ c.if-not-gains_in_range.true in
+    let g = sym c.gains_in_range.ensures ∙ c.if-not-gains_in_range.true in
     c.refused-then-not-gains_in_range.ensures ∙ sym (width_17 a.src a.dst a.gains a.n c.if-src-ge-COUNT.false c.if-dst-ge-COUNT.false g)
 
 pub overflow_mul-channels : goal.overflow_mul-channels
@@ -32,7 +31,7 @@ overflow_mul-channels c =
 pub returns-then-n-channels : goal.returns-then-n-channels
 returns-then-n-channels c =
     let a = c.args in
-    let g = sym c.gains_in_range.ensures ∙ not-false _ c.if-not-gains_in_range.false in
+    let g = sym c.gains_in_range.ensures ∙ c.if-not-gains_in_range.false in
     let e : c.channels.result * c.channels-2.result ≡ channels a.dst * channels a.src = cc (c.channels.ensures, c.channels-2.ensures) in
     let l : a.n < channels a.dst * channels a.src = omega (arith, e, c.if-n-channels.true) in
     c.refused-then-n-channels.ensures ∙ sym (width_2 a.src a.dst a.gains a.n c.if-src-ge-COUNT.false c.if-dst-ge-COUNT.false g l)
@@ -40,7 +39,7 @@ returns-then-n-channels c =
 pub returns : goal.returns
 returns c =
     let a = c.args in
-    let g = sym c.gains_in_range.ensures ∙ not-false _ c.if-not-gains_in_range.false in
+    let g = sym c.gains_in_range.ensures ∙ c.if-not-gains_in_range.false in
     let e : c.channels.result * c.channels-2.result ≡ channels a.dst * channels a.src = cc (c.channels.ensures, c.channels-2.ensures) in
     let l : channels a.dst * channels a.src ≤ a.n = omega (arith, e, c.if-n-channels.false) in
     sym (width_accepted a.src a.dst a.gains a.n c.if-src-ge-COUNT.false c.if-dst-ge-COUNT.false g l)

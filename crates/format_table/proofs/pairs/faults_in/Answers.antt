@@ -17,7 +17,7 @@ loop-k-preserved c =
     let a = c.args in
     let e = c.with_faults-faults.ensures in
     let h : c.loop-k.k < all_pairs = omega (arith, c.loop-k-test.true) in
-    (omega arith, faults_more a.pairs.now c.seen_in-seen.result c.seen_in-seen.ensures c.loop-k.k h c.loop-k.faults c.with_faults-faults.result e.0 e.1.0 e.1.1 c.loop-k.invariant.1)
+    (omega arith, faults_more a.pairs.now c.seen_in-seen.result c.seen_in-seen.ensures c.loop-k.k h c.loop-k.faults c.with_faults-faults.result e.missing e.twice e.uncovered c.loop-k.invariant.1)
 
 pub returns : goal.returns
 returns c =

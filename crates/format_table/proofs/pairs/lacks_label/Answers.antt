@@ -23,7 +23,7 @@ pub returns-then-not-has : goal.returns-then-not-has
 returns-then-not-has c =
     let a = c.args in
     let k : c.loop-c.c < length (labels a.src) = omega (arith, c.loop-c.invariant.1.0, c.loop-c-test.true) in
-    sym (sym c.loop-c.invariant.1.1 ∙ listed_yes (lacks_listed a.dst) (labels a.src) k (lacked a.src a.dst c.loop-c.c k c.label.ensures c.has.ensures c.if-not-has.true))
+    sym (sym c.loop-c.invariant.1.1 ∙ listed_yes (lacks_listed a.dst) (labels a.src) k (lacked a.src a.dst c.loop-c.c k c.label.ensures c.has.ensures (ap not c.if-not-has.true)))
 
 pub loop-c-preserved : goal.loop-c-preserved
 loop-c-preserved c =
@@ -32,7 +32,7 @@ loop-c-preserved c =
       omega arith,
       (
         c.loop-c.invariant.1.0,
-        sym (listed_no (lacks_listed a.dst) (labels a.src) k (lacked a.src a.dst c.loop-c.c k c.label.ensures c.has.ensures c.if-not-has.false)) ∙ c.loop-c.invariant.1.1,
+        sym (listed_no (lacks_listed a.dst) (labels a.src) k (lacked a.src a.dst c.loop-c.c k c.label.ensures c.has.ensures (ap not c.if-not-has.false))) ∙ c.loop-c.invariant.1.1,
       ),
     )
 

@@ -15,24 +15,24 @@ loop-i-init c =
 pub overflow_mul-pairs : goal.overflow_mul-pairs
 overflow_mul-pairs c =
     let formats : (source_at c.args.pairs.now c.loop-i.i < 7) × (destination_at c.args.pairs.now c.loop-i.i < 7) = known c.args.pairs.now c.requires c.loop-i.i (omega (arith, c.loop-i-test.true)) in
-    omega (arith, (formats).0)
+    omega (arith, formats.0)
 
 pub overflow_add-pairs : goal.overflow_add-pairs
 overflow_add-pairs c =
     let formats : (source_at c.args.pairs.now c.loop-i.i < 7) × (destination_at c.args.pairs.now c.loop-i.i < 7) = known c.args.pairs.now c.requires c.loop-i.i (omega (arith, c.loop-i-test.true)) in
-    omega (arith, (formats).0, (formats).1)
+    omega (arith, formats.0, formats.1)
 
 pub with_pair-seen-requires : goal.with_pair-seen-requires
 with_pair-seen-requires c =
     let formats : (source_at c.args.pairs.now c.loop-i.i < 7) × (destination_at c.args.pairs.now c.loop-i.i < 7) = known c.args.pairs.now c.requires c.loop-i.i (omega (arith, c.loop-i-test.true)) in
-    omega (arith, (formats).0, (formats).1)
+    omega (arith, formats.0, formats.1)
 
 pub loop-i-preserved : goal.loop-i-preserved
 loop-i-preserved c =
     let formats : (source_at c.args.pairs.now c.loop-i.i < 7) × (destination_at c.args.pairs.now c.loop-i.i < 7) = known c.args.pairs.now c.requires c.loop-i.i (omega (arith, c.loop-i-test.true)) in
     let a = c.args in
     let f = formats in
-    (omega arith, seen_more a.pairs.now c.loop-i.i c.loop-i.seen c.with_pair-seen.result f.0 f.1 c.with_pair-seen.ensures.0 c.with_pair-seen.ensures.1 c.loop-i.invariant.1)
+    (omega arith, seen_more a.pairs.now c.loop-i.i c.loop-i.seen c.with_pair-seen.result f.0 f.1 c.with_pair-seen.ensures.once c.with_pair-seen.ensures.twice c.loop-i.invariant.1)
 
 pub returns : goal.returns
 returns c =

@@ -10,11 +10,11 @@ loop-i-init c = (omega arith, refl)
 
 pub returns-then-not-in_range : goal.returns-then-not-in_range
 returns-then-not-in_range c =
-    sym (c.loop-i.invariant.1 ∙ counted_yes (outside_counted _) (above _ c.loop-i-test.true) (ap not (sym c.in_range.ensures) ∙ c.if-not-in_range.true))
+    sym (c.loop-i.invariant.1 ∙ counted_yes (outside_counted _) (above _ c.loop-i-test.true) (ap not (sym c.in_range.ensures ∙ c.if-not-in_range.true)))
 
 pub loop-i-preserved : goal.loop-i-preserved
 loop-i-preserved c =
-    (omega arith, c.loop-i.invariant.1 ∙ counted_no (outside_counted _) (above _ c.loop-i-test.true) (ap not (sym c.in_range.ensures) ∙ c.if-not-in_range.false))
+    (omega arith, c.loop-i.invariant.1 ∙ counted_no (outside_counted _) (above _ c.loop-i-test.true) (ap not (sym c.in_range.ensures ∙ c.if-not-in_range.false)))
 
 pub returns : goal.returns
 returns c = sym (c.loop-i.invariant.1 ∙ counted_end (outside_counted _) (omega arith))

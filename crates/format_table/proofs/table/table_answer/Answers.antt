@@ -1,10 +1,12 @@
 -- `format_table::table::table_answer` meets its contract: each way out is one of `Answers`. Assumes nothing.
 use mathlib.Core.Path.{◌≡◌, refl, sym, ap, ◌∙◌}
 use mathlib.Core.Bool.{Bool, true, false, cond}
+use mathlib.Core.List.{List}
 use Prim.Native.Nat.{ℕ, ◌<◌, ◌≤◌}
 use native.Mathlib.Omega.{arith}
 use borrow.Author.Tests.{ltb-true, ltb-false}
 use lib.Dec.{ltb}
+use lib.Ieee.{Float}
 use lib.ListN.{length}
 use Rattle.format_table.specs.declared.table.Needs.{Needs}
 use Rattle.format_table.specs.declared.table.Needs.TheVariants.{Short, Gains}
@@ -33,11 +35,8 @@ counted all room n p e = go (ltb room all) refl
     go true t = absurd (apart n (sym (ap (λ (b : Bool). cond b Short (Gains all)) t) ∙ sym p ∙ e))
     go false t = (same (sym e ∙ p ∙ ap (λ (b : Bool). cond b Short (Gains all)) t), ltb-false room all t)
 
-outside : (c : tie.After-some-outside) {b : Bool} → c.some_outside.result ≡ b → some_outside c.before.before.before.before.before.before.before.before.before.args.gains.now (needed c.before.before.before.before.before.before.before.before.before.args.pairs.now (entries c.before.before.before.before.before.before.before.before.before.args.pairs.now)) ≡ b
-outside c e =
-    let n = c.before.before in
-    let a = n.before.before.before.before.before.before.before.args in
-    ap (some_outside a.gains.now) (sym (enough n).0) ∙ sym c.some_outside.ensures ∙ e
+outside : (gains : List Float) (n all : ℕ) {s b : Bool} → n ≡ all → s ≡ some_outside gains n → s ≡ b → some_outside gains all ≡ b
+outside gains n all p q e = ap (some_outside gains) (sym p) ∙ sym q ∙ e
 
 pub returns-then-some_unknown : goal.returns-then-some_unknown
 returns-then-some_unknown c =
@@ -49,21 +48,19 @@ returns-in_default c =
     let known : some_unknown c.args.pairs.now (entries c.args.pairs.now) ≡ false = sym c.some_unknown.ensures ∙ c.if-some_unknown.false in
     let a = c.args in
     let s = too_many (needed a.pairs.now (entries a.pairs.now)) (length a.gains.now) c.gains_needed.ensures c.in_default.is in
-    c.refused-in_default.ensures ∙ sym (table_2 a.pairs.now a.gains.now (known) s)
+    c.refused-in_default.ensures ∙ sym (table_2 a.pairs.now a.gains.now known s)
 
 pub some_outside-requires : goal.some_outside-requires
 some_outside-requires c =
-    let enough : (c.in-Gains.n ≡ needed c.args.pairs.now (entries c.args.pairs.now)) × (needed c.args.pairs.now (entries c.args.pairs.now) ≤ length c.args.gains.now) = let a = c.args in
-    counted (needed a.pairs.now (entries a.pairs.now)) (length a.gains.now) c.in-Gains.n c.gains_needed.ensures c.in-Gains.is in
-    omega (arith, (enough).0, (enough).1)
+    let enough = counted (needed c.args.pairs.now (entries c.args.pairs.now)) (length c.args.gains.now) c.in-Gains.n c.gains_needed.ensures c.in-Gains.is in
+    omega (arith, enough.0, enough.1)
 
 pub returns-then-some_outside : goal.returns-then-some_outside
 returns-then-some_outside c =
     let known : some_unknown c.args.pairs.now (entries c.args.pairs.now) ≡ false = sym c.some_unknown.ensures ∙ c.if-some_unknown.false in
-    let enough : (c.in-Gains.n ≡ needed c.args.pairs.now (entries c.args.pairs.now)) × (needed c.args.pairs.now (entries c.args.pairs.now) ≤ length c.args.gains.now) = let a = c.args in
-    counted (needed a.pairs.now (entries a.pairs.now)) (length a.gains.now) c.in-Gains.n c.gains_needed.ensures c.in-Gains.is in
+    let enough = counted (needed c.args.pairs.now (entries c.args.pairs.now)) (length c.args.gains.now) c.in-Gains.n c.gains_needed.ensures c.in-Gains.is in
     let a = c.args in
-    c.refused-then-some_outside.ensures ∙ sym (table_17 a.pairs.now a.gains.now (known) (enough).1 (outside o{-?place-} c.if-some_outside.true))
+    c.refused-then-some_outside.ensures ∙ sym (table_17 a.pairs.now a.gains.now known enough.1 (outside a.gains.now _ _ enough.0 c.some_outside.ensures c.if-some_outside.true))
 
 pub faults_in-faults-requires : goal.faults_in-faults-requires
 faults_in-faults-requires c =
@@ -73,37 +70,33 @@ faults_in-faults-requires c =
 pub returns-then-faults : goal.returns-then-faults
 returns-then-faults c =
     let known : some_unknown c.args.pairs.now (entries c.args.pairs.now) ≡ false = sym c.some_unknown.ensures ∙ c.if-some_unknown.false in
-    let enough : (c.in-Gains.n ≡ needed c.args.pairs.now (entries c.args.pairs.now)) × (needed c.args.pairs.now (entries c.args.pairs.now) ≤ length c.args.gains.now) = let a = c.args in
-    counted (needed a.pairs.now (entries a.pairs.now)) (length a.gains.now) c.in-Gains.n c.gains_needed.ensures c.in-Gains.is in
+    let enough = counted (needed c.args.pairs.now (entries c.args.pairs.now)) (length c.args.gains.now) c.in-Gains.n c.gains_needed.ensures c.in-Gains.is in
     let a = c.args in
     let e = c.faults_in-faults.ensures in
-    c.refused-then-faults.ensures ∙ sym (table_19 a.pairs.now a.gains.now (known) (enough).1 (outside o{-?place-} c.if-some_outside.false) (sym e.missing ∙ c.if-faults.true))
+    c.refused-then-faults.ensures ∙ sym (table_19 a.pairs.now a.gains.now known enough.1 (outside a.gains.now _ _ enough.0 c.some_outside.ensures c.if-some_outside.false) (sym e.missing ∙ c.if-faults.true))
 
 pub returns-then-faults-2 : goal.returns-then-faults-2
 returns-then-faults-2 c =
     let known : some_unknown c.args.pairs.now (entries c.args.pairs.now) ≡ false = sym c.some_unknown.ensures ∙ c.if-some_unknown.false in
-    let enough : (c.in-Gains.n ≡ needed c.args.pairs.now (entries c.args.pairs.now)) × (needed c.args.pairs.now (entries c.args.pairs.now) ≤ length c.args.gains.now) = let a = c.args in
-    counted (needed a.pairs.now (entries a.pairs.now)) (length a.gains.now) c.in-Gains.n c.gains_needed.ensures c.in-Gains.is in
+    let enough = counted (needed c.args.pairs.now (entries c.args.pairs.now)) (length c.args.gains.now) c.in-Gains.n c.gains_needed.ensures c.in-Gains.is in
     let a = c.args in
     let e = c.faults_in-faults.ensures in
     c.refused-then-faults-2.ensures
-    ∙ sym (table_20 a.pairs.now a.gains.now (known) (enough).1 (outside o{-?place-} c.if-some_outside.false) (sym e.missing ∙ c.if-faults.false) (sym e.twice ∙ c.if-faults-2.true))
+    ∙ sym (table_20 a.pairs.now a.gains.now known enough.1 (outside a.gains.now _ _ enough.0 c.some_outside.ensures c.if-some_outside.false) (sym e.missing ∙ c.if-faults.false) (sym e.twice ∙ c.if-faults-2.true))
 
 pub returns-then-faults-3 : goal.returns-then-faults-3
 returns-then-faults-3 c =
     let known : some_unknown c.args.pairs.now (entries c.args.pairs.now) ≡ false = sym c.some_unknown.ensures ∙ c.if-some_unknown.false in
-    let enough : (c.in-Gains.n ≡ needed c.args.pairs.now (entries c.args.pairs.now)) × (needed c.args.pairs.now (entries c.args.pairs.now) ≤ length c.args.gains.now) = let a = c.args in
-    counted (needed a.pairs.now (entries a.pairs.now)) (length a.gains.now) c.in-Gains.n c.gains_needed.ensures c.in-Gains.is in
+    let enough = counted (needed c.args.pairs.now (entries c.args.pairs.now)) (length c.args.gains.now) c.in-Gains.n c.gains_needed.ensures c.in-Gains.is in
     let a = c.args in
     let e = c.faults_in-faults.ensures in
     c.refused-then-faults-3.ensures
-    ∙ sym (table_21 a.pairs.now a.gains.now (known) (enough).1 (outside o{-?place-} c.if-some_outside.false) (sym e.missing ∙ c.if-faults.false) (sym e.twice ∙ c.if-faults-2.false) (sym e.uncovered ∙ c.if-faults-3.true))
+    ∙ sym (table_21 a.pairs.now a.gains.now known enough.1 (outside a.gains.now _ _ enough.0 c.some_outside.ensures c.if-some_outside.false) (sym e.missing ∙ c.if-faults.false) (sym e.twice ∙ c.if-faults-2.false) (sym e.uncovered ∙ c.if-faults-3.true))
 
 pub returns : goal.returns
 returns c =
     let known : some_unknown c.args.pairs.now (entries c.args.pairs.now) ≡ false = sym c.some_unknown.ensures ∙ c.if-some_unknown.false in
-    let enough : (c.in-Gains.n ≡ needed c.args.pairs.now (entries c.args.pairs.now)) × (needed c.args.pairs.now (entries c.args.pairs.now) ≤ length c.args.gains.now) = let a = c.args in
-    counted (needed a.pairs.now (entries a.pairs.now)) (length a.gains.now) c.in-Gains.n c.gains_needed.ensures c.in-Gains.is in
+    let enough = counted (needed c.args.pairs.now (entries c.args.pairs.now)) (length c.args.gains.now) c.in-Gains.n c.gains_needed.ensures c.in-Gains.is in
     let a = c.args in
     let e = c.faults_in-faults.ensures in
-    sym (table_passes a.pairs.now a.gains.now (known) (enough).1 (outside o{-?place-} c.if-some_outside.false) (sym e.missing ∙ c.if-faults.false) (sym e.twice ∙ c.if-faults-2.false) (sym e.uncovered ∙ c.if-faults-3.false))
+    sym (table_passes a.pairs.now a.gains.now known enough.1 (outside a.gains.now _ _ enough.0 c.some_outside.ensures c.if-some_outside.false) (sym e.missing ∙ c.if-faults.false) (sym e.twice ∙ c.if-faults-2.false) (sym e.uncovered ∙ c.if-faults-3.false))
