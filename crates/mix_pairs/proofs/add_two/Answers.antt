@@ -14,7 +14,7 @@ loop-i-preserved c =
     let a = c.args in
     let p = c.requires in
     let l = c.loop-i in
-    (search rules, piece_done (plus_scaled (Rest a.a)) (plus_scaled (Rest a.b)) a.block a.s a.z a.d a.area.now p.0 p.1 l.i c.loop-i-test.true l.invariant.1 c.add_two_piece.ensures)
+    (search rules, piece_done (plus_scaled (Rest a.a)) (plus_scaled (Rest a.b)) a.block a.s a.z a.d a.area.now p.pair p.pair_2 l.i c.loop-i-test.true l.invariant.1 c.add_two_piece.ensures)
 
 pub returns-then-r-block : goal.returns-then-r-block
 returns-then-r-block c =
@@ -28,8 +28,8 @@ add_two_last-requires c =
     let p = c.requires in
     let l = c.loop-i in
     let r = whole_piece * (a.block / whole_piece) in record {
-      piece = piece_of p.0 l.invariant.1.0 r (a.block - r) (omega arith) (omega arith);
-      piece_2 = piece_of p.1 l.invariant.1.0 r (a.block - r) (omega arith) (omega arith);
+      piece = piece_of p.pair l.invariant.1.0 r (a.block - r) (omega arith) (omega arith);
+      piece_2 = piece_of p.pair_2 l.invariant.1.0 r (a.block - r) (omega arith) (omega arith);
     }
 
 pub returns : goal.returns
@@ -37,4 +37,4 @@ returns c =
     let a = c.args in
     let p = c.requires in
     let l = c.loop-i in
-    rest_done (plus_scaled (Rest a.a)) (plus_scaled (Rest a.b)) a.block a.s a.z a.d a.area.now p.0 p.1 l.i (omega arith) l.invariant.1 c.add_two_last.ensures
+    rest_done (plus_scaled (Rest a.a)) (plus_scaled (Rest a.b)) a.block a.s a.z a.d a.area.now p.pair p.pair_2 l.i (omega arith) l.invariant.1 c.add_two_last.ensures

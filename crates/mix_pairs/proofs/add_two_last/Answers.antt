@@ -16,7 +16,7 @@ loop-i-preserved c =
     let a = c.args in
     let p = c.requires in
     let l = c.loop-i in
-    (search rules, one_done (plus_scaled (Rest a.a)) (plus_scaled (Rest a.b)) a.from a.other a.to a.k a.area.now a.m l.i p.0.1 p.1.1 c.loop-i-test.true l.invariant.1 refl)
+    (search rules, one_done (plus_scaled (Rest a.a)) (plus_scaled (Rest a.b)) a.from a.other a.to a.k a.area.now a.m l.i p.piece.1 p.piece_2.1 c.loop-i-test.true l.invariant.1 refl)
 
 pub returns : goal.returns
 returns c =

@@ -12,10 +12,10 @@ returns c =
     let p = c.requires in
     let f = plus_scaled (Rest a.a) in
     let q = plus_scaled (Rest a.b) in
-    piece_two f q f q a.from a.other a.to a.m a.k a.area.now _ p.0.source p.1.source p.0.target (search rules)
+    piece_two f q f q a.from a.other a.to a.m a.k a.area.now _ p.piece.source p.piece_2.source p.piece.target (search rules)
     (λ i h x y. refl)
     (λ i h x y. refl)
-    c.load.ensures.1
-    c.add_samples.ensures.1
-    c.add_samples-2.ensures.1
+    c.load.ensures.y_value
+    c.add_samples.ensures.y_after
+    c.add_samples-2.ensures.y_after
     c.store.ensures

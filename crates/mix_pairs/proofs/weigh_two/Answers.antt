@@ -12,7 +12,7 @@ loop-i-preserved c =
     let a = c.args in
     let p = c.requires in
     let l = c.loop-i in
-    (search rules, piece_done (plus_weighted a.w a.g) (plus_weighted a.v a.g) a.block a.s a.z a.d a.area.now p.0 p.1 l.i c.loop-i-test.true l.invariant.1 c.weigh_two_piece.ensures)
+    (search rules, piece_done (plus_weighted a.w a.g) (plus_weighted a.v a.g) a.block a.s a.z a.d a.area.now p.pair p.pair_2 l.i c.loop-i-test.true l.invariant.1 c.weigh_two_piece.ensures)
 
 pub returns-then-r-block : goal.returns-then-r-block
 returns-then-r-block c =
@@ -25,4 +25,4 @@ returns c =
     let a = c.args in
     let p = c.requires in
     let l = c.loop-i in
-    rest_done (plus_weighted a.w a.g) (plus_weighted a.v a.g) a.block a.s a.z a.d a.area.now p.0 p.1 l.i (omega arith) l.invariant.1 c.weigh_two_piece-2.ensures
+    rest_done (plus_weighted a.w a.g) (plus_weighted a.v a.g) a.block a.s a.z a.d a.area.now p.pair p.pair_2 l.i (omega arith) l.invariant.1 c.weigh_two_piece-2.ensures

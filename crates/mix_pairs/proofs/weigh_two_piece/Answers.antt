@@ -12,10 +12,10 @@ returns c =
     let p = c.requires in
     let g = c.later-h in
     piece_two (plus_weighted a.w a.g) (plus_weighted a.v a.g) (plus_weighted a.w g.result) (plus_weighted a.v g.result)
-    a.from a.other a.to a.m a.k a.area.now _ p.0.source p.1.source p.0.target (search rules)
+    a.from a.other a.to a.m a.k a.area.now _ p.piece.source p.piece_2.source p.piece.target (search rules)
     (λ i h x y. ap (λ (f : Float). add binary32 y (mul binary32 (mul binary32 x a.w) f)) (g.ensures i h))
     (λ i h x y. ap (λ (f : Float). add binary32 y (mul binary32 (mul binary32 x a.v) f)) (g.ensures i h))
-    c.load.ensures.1
-    c.weigh_samples.ensures.1
-    c.weigh_samples-2.ensures.1
+    c.load.ensures.y_value
+    c.weigh_samples.ensures.y_after
+    c.weigh_samples-2.ensures.y_after
     c.store.ensures

@@ -13,6 +13,6 @@ returns c =
     let f = plus_scaled (Rest a.a) in
     piece_mixed f f a.from a.to a.m a.k a.area.now _ p.source p.target (search rules)
     (λ i h x y. refl)
-    c.load.ensures.1
-    c.add_samples.ensures.1
+    c.load.ensures.y_value
+    c.add_samples.ensures.y_after
     c.store.ensures

@@ -5,7 +5,7 @@ use Rattle.mix.proofs.Pieces.{alone, LastStored}
 use Rattle.mix_pieces.proofs.scale_last.Given as goal
 
 abbrev pub invariant-loop-i : goal.invariant-loop-i
-invariant-loop-i l = (l.i ≤ l.m) × LastStored (λ l.k x y. scaled l.h l.k x) alone l.from l.from l.to l.k l.initial.area l.i l.area
+invariant-loop-i l = (l.i ≤ l.m) × LastStored (λ k x y. scaled l.h k x) alone l.from l.from l.to l.k l.initial.area l.i l.area
 
 abbrev pub decreases-loop-i : goal.decreases-loop-i
 decreases-loop-i l = l.m - l.i

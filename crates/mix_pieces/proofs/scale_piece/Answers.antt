@@ -16,4 +16,4 @@ returns c =
     samples_stored (λ i. scaled a.g (a.k + i) (get_or a.area.now (a.from + i) nan)) a.area.now a.to a.m c.store.ensures
     (part_mixed (λ k x y. scaled a.g k x) (λ k x y. scaled g.result k x) a.k a.from a.m a.area.now _ p.source (search rules)
     (λ i h x y. ap (λ (v : Float). mul binary32 x v) (g.ensures i h))
-    c.scale_samples.ensures.1)
+    c.scale_samples.ensures.y_value)

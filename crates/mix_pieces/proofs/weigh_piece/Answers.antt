@@ -13,6 +13,6 @@ returns c =
     let g = c.later in
     piece_mixed (plus_weighted a.w a.g) (plus_weighted a.w g.result) a.from a.to a.m a.k a.area.now _ p.source p.target (search rules)
     (λ i h x y. ap (λ (v : Float). add binary32 y (mul binary32 (mul binary32 x a.w) v)) (g.ensures i h))
-    c.load.ensures.1
-    c.weigh_samples.ensures.1
+    c.load.ensures.y_value
+    c.weigh_samples.ensures.y_after
     c.store.ensures
