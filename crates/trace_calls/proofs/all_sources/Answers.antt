@@ -34,14 +34,14 @@ behind-n-requires c =
 pub overflow_mul-n : goal.overflow_mul-n
 overflow_mul-n c =
     let fine : (let a = c.args in checked a.plan (short_lists a.plan a.indices.now a.node_words.now a.steps.now) a.indices.now a.node_words.now a.steps.now ≡ Accepted) = sym c.check_lists.ensures ∙ c.in_default.is in
-    let a = c.args in omega (arith, few a.plan a.indices.now a.node_words.now a.steps.now (fine), c.behind-n.ensures.0)
+    let a = c.args in omega (arith, few a.plan a.indices.now a.node_words.now a.steps.now (fine), c.behind-n.ensures.count)
 
 pub returns-then-counts-n : goal.returns-then-counts-n
 returns-then-counts-n c =
     let fine : (let a = c.args in checked a.plan (short_lists a.plan a.indices.now a.node_words.now a.steps.now) a.indices.now a.node_words.now a.steps.now ≡ Accepted) = sym c.check_lists.ensures ∙ c.in_default.is in
     let a = c.args in
     let b = c.behind-n in
-    let r = all_refused a.plan a.indices.now a.node_words.now a.steps.now a.counts.now a.lists.now _ _ (all_by_2 a.plan a.indices.now a.node_words.now a.steps.now a.counts.now a.lists.now (fine) b.result b.ensures.0 c.if-counts-n.true) c.of.ensures in
+    let r = all_refused a.plan a.indices.now a.node_words.now a.steps.now a.counts.now a.lists.now _ _ (all_by_2 a.plan a.indices.now a.node_words.now a.steps.now a.counts.now a.lists.now (fine) b.result b.ensures.count c.if-counts-n.true) c.of.ensures in
     record {
       answer = r.0;
       counts = r.1.0;
@@ -54,12 +54,12 @@ write_lists-requires c =
     let a = c.args in
     let b = c.behind-n in
     let r = room a.plan a.indices.now a.node_words.now a.steps.now a.counts.now a.lists.now b.result c.if-counts-n.false in
-    (omega (arith, few a.plan a.indices.now a.node_words.now a.steps.now (fine), b.ensures.0), b.auto.1.1.1.0, r.0, r.1)
+    (omega (arith, few a.plan a.indices.now a.node_words.now a.steps.now (fine), b.ensures.count), b.auto.slots, r.0, r.1)
 
 pub overflow_cast-result : goal.overflow_cast-result
 overflow_cast-result c =
     let fine : (let a = c.args in checked a.plan (short_lists a.plan a.indices.now a.node_words.now a.steps.now) a.indices.now a.node_words.now a.steps.now ≡ Accepted) = sym c.check_lists.ensures ∙ c.in_default.is in
-    let a = c.args in omega (arith, few a.plan a.indices.now a.node_words.now a.steps.now (fine), c.behind-n.ensures.0)
+    let a = c.args in omega (arith, few a.plan a.indices.now a.node_words.now a.steps.now (fine), c.behind-n.ensures.count)
 
 pub returns : goal.returns
 returns c =
@@ -67,11 +67,11 @@ returns c =
     let a = c.args in
     let xs = traced_steps a.plan a.indices.now a.steps.now in
     let b = c.behind-n in
-    let area = b.new.1.1.1.0 in
+    let area = b.new.slots in
     let h = c.write_lists in
-    let r = all_listed a.plan a.indices.now a.node_words.now a.steps.now a.counts.now a.lists.now (list_at area) (set_listed area xs (zeros_or slot_words area (λ s i. behind s no_sources xs i) b.ensures.1))
-    (all_by_none a.plan a.indices.now a.node_words.now a.steps.now a.counts.now a.lists.now (fine) b.result b.ensures.0 c.if-counts-n.false) b.result b.ensures.0
-    h.new.1.1.0 h.new.1.1.1.0 h.ensures.0 h.ensures.1 in
+    let r = all_listed a.plan a.indices.now a.node_words.now a.steps.now a.counts.now a.lists.now (list_at area) (set_listed area xs (zeros_or slot_words area (λ s i. behind s no_sources xs i) b.ensures.sets))
+    (all_by_none a.plan a.indices.now a.node_words.now a.steps.now a.counts.now a.lists.now (fine) b.result b.ensures.count c.if-counts-n.false) b.result b.ensures.count
+    h.new.counts h.new.lists h.ensures.0 h.ensures.1 in
     record {
       answer = r.0;
       counts = r.1.0;

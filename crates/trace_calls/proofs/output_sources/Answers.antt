@@ -37,7 +37,7 @@ returns-then-n-slot c =
     let fine : (let a = c.args in checked a.plan (short_lists a.plan a.indices.now a.node_words.now a.steps.now) a.indices.now a.node_words.now a.steps.now ≡ Accepted) = sym c.check_lists.ensures ∙ c.in_default.is in
     let a = c.args in
     let r = refused a.plan a.slot a.indices.now a.node_words.now a.steps.now a.list.now _ _
-    (by_15 a.plan a.slot a.indices.now a.node_words.now a.steps.now a.list.now (fine) (omega (arith, c.if-n-slot.true, c.behind-n.ensures.0))) c.of.ensures in
+    (by_15 a.plan a.slot a.indices.now a.node_words.now a.steps.now a.list.now (fine) (omega (arith, c.if-n-slot.true, c.behind-n.ensures.count))) c.of.ensures in
     record {
       answer = r.0;
       list = r.1;
@@ -48,7 +48,7 @@ load-set-requires c =
     let fine : (let a = c.args in checked a.plan (short_lists a.plan a.indices.now a.node_words.now a.steps.now) a.indices.now a.node_words.now a.steps.now ≡ Accepted) = sym c.check_lists.ensures ∙ c.in_default.is in
     let a = c.args in
     let b = c.behind-n in
-    omega (arith, few a.plan a.indices.now a.node_words.now a.steps.now (fine), c.if-n-slot.false, b.ensures.0, b.auto.1.1.1.0)
+    omega (arith, few a.plan a.indices.now a.node_words.now a.steps.now (fine), c.if-n-slot.false, b.ensures.count, b.auto.slots)
 
 pub returns-then-list-count : goal.returns-then-list-count
 returns-then-list-count c =
@@ -57,10 +57,10 @@ returns-then-list-count c =
     let xs = traced_steps a.plan a.indices.now a.steps.now in
     let b = c.behind-n in
     ap members c.load-set.ensures
-    ∙ set_listed b.new.1.1.1.0 xs (zeros_or slot_words b.new.1.1.1.0 (λ s i. behind s no_sources xs i) b.ensures.1) a.slot in
+    ∙ set_listed b.new.slots xs (zeros_or slot_words b.new.slots (λ s i. behind s no_sources xs i) b.ensures.sets) a.slot in
     let a = c.args in
     let r = refused a.plan a.slot a.indices.now a.node_words.now a.steps.now a.list.now _ _
-    (by_2 a.plan a.slot a.indices.now a.node_words.now a.steps.now a.list.now (fine) (omega (arith, c.if-n-slot.false, c.behind-n.ensures.0))
+    (by_2 a.plan a.slot a.indices.now a.node_words.now a.steps.now a.list.now (fine) (omega (arith, c.if-n-slot.false, c.behind-n.ensures.count))
     (omega (arith, c.if-list-count.true, c.count-count.ensures ∙ ap length (found)))) c.of-then-list-count.ensures in
     record {
       answer = r.0;
@@ -73,13 +73,13 @@ returns c =
     let xs = traced_steps a.plan a.indices.now a.steps.now in
     let b = c.behind-n in
     ap members c.load-set.ensures
-    ∙ set_listed b.new.1.1.1.0 xs (zeros_or slot_words b.new.1.1.1.0 (λ s i. behind s no_sources xs i) b.ensures.1) a.slot in
+    ∙ set_listed b.new.slots xs (zeros_or slot_words b.new.slots (λ s i. behind s no_sources xs i) b.ensures.sets) a.slot in
     let fine : (let a = c.args in checked a.plan (short_lists a.plan a.indices.now a.node_words.now a.steps.now) a.indices.now a.node_words.now a.steps.now ≡ Accepted) = sym c.check_lists.ensures ∙ c.in_default.is in
     let a = c.args in
     let count = c.count-count in
     let room = c.if-list-count.false in
     let r = listed a.plan a.slot a.indices.now a.node_words.now a.steps.now a.list.now c.load-set.result (found) count.result c.list.new.out
-    (by_none a.plan a.slot a.indices.now a.node_words.now a.steps.now a.list.now (fine) (omega (arith, c.if-n-slot.false, c.behind-n.ensures.0)) (omega (arith, room, count.ensures ∙ ap length (found))))
+    (by_none a.plan a.slot a.indices.now a.node_words.now a.steps.now a.list.now (fine) (omega (arith, c.if-n-slot.false, c.behind-n.ensures.count)) (omega (arith, room, count.ensures ∙ ap length (found))))
     count.ensures (omega (arith, room, count.ensures)) c.list.ensures in
     record {
       answer = r.0;

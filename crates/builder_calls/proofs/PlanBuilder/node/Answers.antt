@@ -65,6 +65,6 @@ returns-in-Accepted c =
     let e : v ≡ Accepted = sym c.node_answer.ensures ∙ c.in-Accepted.is in record {
       answer = sym (outcome_accepted v (numbered.Number a.plan.nodes) numbered.Refused e);
       plan = sym (plan_accepted a.plan node_growth e);
-      floats = c.store.ensures.0 ∙ ap (stored_floats floats a.plan.nodes) c.new.ensures ∙ sym (floats_accepted unit_limits a.plan a.id a.values.now a.ramp a.safe floats words e);
-      words = c.store.ensures.1 ∙ ap (stored_words words a.plan.nodes) c.new.ensures ∙ sym (words_accepted unit_limits a.plan a.id a.values.now a.ramp a.safe floats words e);
+      floats = c.store.ensures.floats ∙ ap (stored_floats floats a.plan.nodes) c.new.ensures ∙ sym (floats_accepted unit_limits a.plan a.id a.values.now a.ramp a.safe floats words e);
+      words = c.store.ensures.words ∙ ap (stored_words words a.plan.nodes) c.new.ensures ∙ sym (words_accepted unit_limits a.plan a.id a.values.now a.ramp a.safe floats words e);
     }

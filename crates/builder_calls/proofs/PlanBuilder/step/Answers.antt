@@ -57,5 +57,5 @@ returns-in-Accepted c =
       answer = sym e;
       plan = ap (λ (k : ℕ). grown a.plan (step_growth k)) n ∙ sym (plan_accepted a.plan (step_growth (record_length w)) e);
       steps = c.put_words.ensures ∙ ap (λ (k : ℕ). sets area a.plan.words (take k w)) n
-            ∙ sym (step_accepted unit_limits a.plan w area e);
+          ∙ sym (step_accepted unit_limits a.plan w area e);
     }
