@@ -12,7 +12,7 @@ pub gain-requires : goal.gain-requires
 gain-requires c =
     let a = c.args in
     let f = c.requires.node_fit in
-    let from = c.numbers_from.ensures in
+    let from = c.numbers-from.ensures in
     let to = c.numbers-to.ensures in record {
       buffers = gain_apart f c.requires.narrow.1 from to;
       values = rows_values a.floats.now a.node _ (node_room f).0 (used_count f c.requires.narrow.0 from to) c.cur_of-cur.ensures c.target_of-target.ensures c.step_of-step.ensures;
@@ -24,4 +24,4 @@ returns c =
     c.gain.ensures
     ∙ same_call (λ (g : ℕ → Gain) (s d : List ℕ). gained a.plan.block g 0 s d a.buffers.now)
     (rows_gains a.floats.now a.words.now a.node c.cur_of-cur.ensures c.target_of-target.ensures c.step_of-step.ensures c.left_of-left.ensures)
-    c.numbers_from.ensures c.numbers-to.ensures
+    c.numbers-from.ensures c.numbers-to.ensures

@@ -10,7 +10,7 @@ end_block-requires c =
 
 pub returns : goal.returns
 returns c = let e = c.end_block.ensures in record {
-      floats = e.0;
-      words = e.1;
+      floats = e.floats;
+      words = e.words;
       buffers = c.matrix_buffers.ensures;
     }

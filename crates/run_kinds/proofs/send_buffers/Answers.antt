@@ -13,7 +13,7 @@ use Rattle.run_kinds.proofs.send_buffers.Goals as goal
 pub send-requires : goal.send-requires
 send-requires c =
     let f = c.requires.node_fit in
-    let from = c.numbers_from.ensures in
+    let from = c.numbers-from.ensures in
     let to = c.numbers-to.ensures in record {
       buffers = step_apart f c.requires.disjoint.0 from to;
       src_in_bounds = values_count f (length c.args.w.now) c.requires.disjoint.1 from to;
@@ -25,4 +25,4 @@ returns c =
     c.send.ensures
     ∙ same_call (λ (g : Gain) (s d : List ℕ). sends a.plan.block g a.w.now 0 s d a.buffers.now)
     (c.gain-g.ensures ∙ ap (λ (m : Node). gain_of m 0) c.load.ensures)
-    c.numbers_from.ensures c.numbers-to.ensures
+    c.numbers-from.ensures c.numbers-to.ensures

@@ -52,9 +52,8 @@ weights-w-requires c =
 
 pub run_send-requires : goal.run_send-requires
 run_send-requires c =
-    let k = c.step-in-Send-1.given in
-    let f = step_as k.1 c.requires.fit_step.0 in
-    let h : Within (length c.args.coefficients.now) k.0.1.1.1.0 = omega (arith, f.inside.3, f.fit.weights) in record {
+    let f = step_as c.in-Send.is c.requires.fit_step.0 in
+    let h : Within (length c.args.coefficients.now) c.in-Send.span = omega (arith, f.inside.3, f.fit.weights) in record {
       node_fit = node_fit _ _ _ f.fit f.inside.0 f.inside.1 f.inside.2;
       disjoint = (f.apart, weights_count c.args.coefficients.now _ _ h f.inside.4 c.weights-w.ensures);
     }
@@ -69,7 +68,7 @@ run_output-requires c =
 
 pub returns-in-Output : goal.returns-in-Output
 unfolding stepped
-returns-in-Output c = let e = c.run_output.ensures in rw (c.in-Output.is, e.0, e.1)
+returns-in-Output c = let e = c.run_output.ensures in rw (c.in-Output.is, e.wrote, e.output)
 
 pub returns-in-Patch : goal.returns-in-Patch
 unfolding stepped
@@ -83,13 +82,13 @@ pub returns-in-Gain : goal.returns-in-Gain
 unfolding stepped
 returns-in-Gain c =
     let e = c.run_gain.ensures in
-    rw (c.in-Gain.is, e.0, e.1.0, e.1.1)
+    rw (c.in-Gain.is, e.floats, e.words, e.buffers)
 
 pub returns-in-Matrix : goal.returns-in-Matrix
 unfolding stepped
 returns-in-Matrix c =
     let e = c.run_matrix.ensures in
-    rw (c.in-Matrix.is, e.0, e.1.0, e.1.1)
+    rw (c.in-Matrix.is, e.floats, e.words, e.buffers)
 
 pub returns-in-Clear : goal.returns-in-Clear
 unfolding stepped
@@ -99,10 +98,10 @@ pub returns-in-Send : goal.returns-in-Send
 unfolding stepped
 returns-in-Send c =
     let a = c.args in
-    let k = c.step-in-Send-1.given in
+    let k = c.in-Send in
     let e = c.run_send.ensures in
-    let n = gain_of (node_at a.floats.now a.words.now k.0.0) 0 in
-    let src = named a.indices.now k.0.1.0 in
-    let dst = named a.indices.now k.0.1.1.0 in
-    let b = e.1.1 ∙ ap (λ (w : List Float). sends a.plan.block n w 0 src dst a.buffers.now) c.weights-w.ensures in
-    rw (k.1, e.0, e.1.0, b)
+    let n = gain_of (node_at a.floats.now a.words.now k.node) 0 in
+    let src = named a.indices.now k.src in
+    let dst = named a.indices.now k.dst in
+    let b = e.buffers ∙ ap (λ (w : List Float). sends a.plan.block n w 0 src dst a.buffers.now) c.weights-w.ensures in
+    rw (k.is, e.floats, e.words, b)
