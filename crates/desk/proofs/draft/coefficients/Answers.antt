@@ -20,6 +20,6 @@ returns c =
     let w = c.refused in
     let h = c.if-refused.false in
     let s = c.coefficients.ensures in record {
-      draft = goes_on d w.result w.ensures _ d h (c.spanned.ensures ∙ (λ i. span_made d (s.1.0 i) (s.0 i)));
-      area = goes_on d w.result w.ensures _ a.area.now h s.1.1;
+      draft = goes_on d w.result w.ensures _ d h (c.spanned.ensures ∙ (λ i. span_made d (s.plan i) (s.answer i)));
+      area = goes_on d w.result w.ensures _ a.area.now h s.area;
     }

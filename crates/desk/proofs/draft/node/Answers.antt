@@ -21,7 +21,7 @@ returns c =
     let w = c.refused in
     let h = c.if-refused.false in
     let s = c.node.ensures in record {
-      draft = goes_on d w.result w.ensures _ d h (c.numbered.ensures ∙ (λ i. node_made d (s.1.0 i) (s.0 i)));
-      floats = goes_on d w.result w.ensures _ a.floats.now h s.1.1.0;
-      words = goes_on d w.result w.ensures _ a.words.now h s.1.1.1;
+      draft = goes_on d w.result w.ensures _ d h (c.numbered.ensures ∙ (λ i. node_made d (s.plan i) (s.answer i)));
+      floats = goes_on d w.result w.ensures _ a.floats.now h s.floats;
+      words = goes_on d w.result w.ensures _ a.words.now h s.words;
     }

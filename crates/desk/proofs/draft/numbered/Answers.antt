@@ -12,5 +12,4 @@ returns-in-Refused c =
 pub returns-in-Number : goal.returns-in-Number
 returns-in-Number c =
     let a = c.args in
-    let g = c.answer-in-Number-1.given in
-    ap (λ (d : Draft). with_node d g.0.0) c.answered-draft.ensures ∙ ap (node_made a.draft a.made.plan) (sym g.1)
+    ap (λ (d : Draft). with_node d c.in-Number.n) c.answered-draft.ensures ∙ ap (node_made a.draft a.made.plan) (sym c.in-Number.is)

@@ -12,5 +12,4 @@ returns-in-Refused c =
 pub returns-in-Made : goal.returns-in-Made
 returns-in-Made c =
     let a = c.args in
-    let g = c.answer-in-Made-1.given in
-    ap (λ (d : Draft). with_span d g.0.0) c.answered-draft.ensures ∙ ap (span_made a.draft a.made.plan) (sym g.1)
+    ap (λ (d : Draft). with_span d c.in-Made.span) c.answered-draft.ensures ∙ ap (span_made a.draft a.made.plan) (sym c.in-Made.is)

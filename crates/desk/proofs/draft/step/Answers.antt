@@ -20,6 +20,6 @@ returns c =
     let w = c.refused in
     let h = c.if-refused.false in
     let s = c.step-grown.ensures in record {
-      draft = goes_on d w.result w.ensures _ d h (c.answered.ensures ∙ (λ i. answered d (s.1.0 i) (s.0 i)));
-      steps = goes_on d w.result w.ensures _ a.steps.now h s.1.1;
+      draft = goes_on d w.result w.ensures _ d h (c.answered.ensures ∙ (λ i. answered d (s.plan i) (s.answer i)));
+      steps = goes_on d w.result w.ensures _ a.steps.now h s.steps;
     }
