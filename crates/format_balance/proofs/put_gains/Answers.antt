@@ -16,6 +16,7 @@ loop-c-init c = (omega arith, refl)
 pub bounds-out-c : goal.bounds-out-c
 unfolding channels
 bounds-out-c c =
+    -- the labels are n, so each turn has one of them, and the area is as long as it came
     let kept : length c.loop-c.out ≡ length c.args.out.now = ap length c.loop-c.invariant.1
     ∙ length_filled (gain c.args.left c.args.right) (labels c.args.format) c.loop-c.c c.args.out.now (omega arith) (omega arith) in
     omega (arith, kept)

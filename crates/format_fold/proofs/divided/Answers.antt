@@ -15,6 +15,7 @@ loop-i-init c = (search rules, refl)
 
 pub loop-i-preserved : goal.loop-i-preserved
 loop-i-preserved c =
+    -- the matrix has 144 entries
     let full : length c.args.m.entries ≡ 144 = search rules in
     let xs = c.args.m.entries in
     let i = c.loop-i.i in

@@ -15,6 +15,7 @@ loop-i-init c = (search rules, refl)
 
 pub bounds-out-i : goal.bounds-out-i
 bounds-out-i c =
+    -- the matrix has 144 entries
     let full : length c.args.m.entries ≡ 144 = search rules in
     let some : length (take c.args.n c.args.m.entries) ≡ c.args.n = length-take-le c.args.n c.args.m.entries (omega (arith, full)) in
     let kept : length c.loop-i.out ≡ length c.args.out.now = ap length c.loop-i.invariant.1

@@ -13,6 +13,7 @@ loop-s-init c = (search rules, refl)
 
 pub loop-s-preserved : goal.loop-s-preserved
 loop-s-preserved c =
+    -- the matrix has 144 entries
     let full : length c.args.m.entries ≡ 144 = search rules in
     let xs = c.args.m.entries in
     let n : c.args.at + c.args.columns ≤ length xs = omega (arith, full) in

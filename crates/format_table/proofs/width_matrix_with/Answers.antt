@@ -34,6 +34,7 @@ returns-in_default c =
 
 pub returns-in_default-answer : goal.returns-in_default-answer
 returns-in_default-answer c =
+    -- where both answers are accepted
     let own : width_answer c.args.src c.args.dst c.args.gains (length c.args.out.now) ≡ Accepted = sym c.width_answer-own.ensures ∙ c.in-Accepted.is in
     let a = c.args in
     let e = c.in_default-answer.is in
@@ -47,6 +48,7 @@ find_entry-entry-requires c =
     let own : width_answer c.args.src c.args.dst c.args.gains (length c.args.out.now) ≡ Accepted = sym c.width_answer-own.ensures ∙ c.in-Accepted.is in
     let sound : TableSound c.args.pairs.now c.args.table_gains.now = let a = c.args in
     table_sound a.pairs.now a.table_gains.now (sym c.table_answer-answer.ensures ∙ c.in-Accepted-answer.is) in
+    -- where the table covers the pair
     let covered : times c.args.pairs.now c.args.src c.args.dst (entries c.args.pairs.now) ≡ 1 = let a = c.args in
     let f = fitting a.src a.dst a.gains (length a.out.now) (own) in
     (sound).covered a.src a.dst f.source f.destination (sym c.applies.ensures ∙ c.if-applies.true) in

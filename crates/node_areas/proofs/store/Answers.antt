@@ -21,6 +21,7 @@ bounds-words-w-4 c = simp length-set (omega arith)
 pub returns : goal.returns
 unfolding words_of
 returns c =
+    -- what owning the node tells
     let lengths : (length c.args.node.cur ≡ max_values) × (length c.args.node.target ≡ max_values) = search rules in
     let a = c.args in
     let h = lengths in record {

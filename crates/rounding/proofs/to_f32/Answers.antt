@@ -31,12 +31,14 @@ float_to_bits-bits c = no_nan c.args.x c.if-x.false
 
 pub overflow_mul-sign : goal.overflow_mul-sign
 overflow_mul-sign c =
+    -- an f64's format holds it, so it has 64 bits
     let fits-f64 : T (fits binary64 c.args.x) = subst T (sym c.well_formed.0.1) tt in
     let bits-lt : (to_bits binary64 c.args.x) < 2 ^ 64 = to_bits-lt binary64 c.args.x (fits-f64) in
     omega (arith, bits-lt)
 
 pub overflow_add-result : goal.overflow_add-result
 overflow_add-result c =
+    -- the bits that the code makes of the f32
     let result-bits : (to_bits binary64 c.args.x) / 2 ^ 63 * 2 ^ 31 + c.magnitude.result ≡ narrowed_bits ((to_bits binary64 c.args.x)) = ap (λ (p : ℕ). (to_bits binary64 c.args.x) / 2 ^ 63 * 2 ^ 31 + p) c.magnitude.ensures ∙ sign-dropped ((to_bits binary64 c.args.x)) in
     let fits-f64 : T (fits binary64 c.args.x) = subst T (sym c.well_formed.0.1) tt in
     let bits-lt : (to_bits binary64 c.args.x) < 2 ^ 64 = to_bits-lt binary64 c.args.x (fits-f64) in

@@ -14,6 +14,7 @@ loop-i-init c =
 
 pub overflow_mul-pairs : goal.overflow_mul-pairs
 overflow_mul-pairs c =
+    -- entry i is of two formats
     let formats : (source_at c.args.pairs.now c.loop-i.i < 7) × (destination_at c.args.pairs.now c.loop-i.i < 7) = known c.args.pairs.now c.requires c.loop-i.i (omega (arith, c.loop-i-test.true)) in
     omega (arith, formats.0)
 

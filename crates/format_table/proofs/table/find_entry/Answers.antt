@@ -18,6 +18,7 @@ loop-i-init c = let a = c.args in (omega arith, (sym (needed_zero a.pairs.now), 
 
 pub overflow_add-end : goal.overflow_add-end
 overflow_add-end c =
+    -- entry i is among the entries, and its gains among the gains
     let here : c.loop-i.i < entries c.args.pairs.now = omega (arith, c.loop-i-test.true) in
     let within : c.loop-i.at + c.size_at.result ≤ length c.args.gains.now = omega (arith, c.size_at.ensures.0, c.loop-i.invariant.1.0, c.requires.1, entry_within c.args.pairs.now c.loop-i.i (entries c.args.pairs.now) (here)) in
     omega (arith, within)

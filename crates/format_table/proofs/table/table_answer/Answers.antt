@@ -15,6 +15,8 @@ use Rattle.format_table.specs.Loops.{needs_of}
 use Rattle.format_table.proofs.Answers.{table_16, table_2, table_17, table_19, table_20, table_21, table_passes}
 use Rattle.format_table.proofs.table.table_answer.Goals as goal
 
+-- ---- what the answer about the gains says
+
 apart : (n : ℕ) → Short ≡ Gains n → ⊥
 apart n e = let z : ◌≡◌ {A = ℕ} 0 1 = cc in omega arith
 
@@ -35,6 +37,7 @@ counted all room n p e = go (ltb room all) refl
     go true t = absurd (apart n (sym (ap (λ (b : Bool). cond b Short (Gains all)) t) ∙ sym p ∙ e))
     go false t = (same (sym e ∙ p ∙ ap (λ (b : Bool). cond b Short (Gains all)) t), ltb-false room all t)
 
+-- the gains that the entries need, by the test of them
 outside : (gains : List Float) (n all : ℕ) {s b : Bool} → n ≡ all → s ≡ some_outside gains n → s ≡ b → some_outside gains all ≡ b
 outside gains n all p q e = ap (some_outside gains) (sym p) ∙ sym q ∙ e
 
