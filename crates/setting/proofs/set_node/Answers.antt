@@ -30,6 +30,6 @@ returns c =
     let n = c.node_of-n.ensures in
     let l = c.load-node.ensures in
     let k = c.set.ensures in record {
-      floats = t.0 ∙ floats_stored a.nodes a.id a.values.now a.ramp a.node_floats.now a.node_words.now c.requires n l k;
-      words = t.1 ∙ words_stored a.nodes a.id a.values.now a.ramp a.node_floats.now a.node_words.now c.requires n l k;
+      floats = t.floats ∙ floats_stored a.nodes a.id a.values.now a.ramp a.node_floats.now a.node_words.now c.requires n l k;
+      words = t.words ∙ words_stored a.nodes a.id a.values.now a.ramp a.node_floats.now a.node_words.now c.requires n l k;
     }

@@ -23,6 +23,6 @@ returns-in-Accepted c =
     let t = c.set_node.ensures in
     let e = sym c.setting_answer.ensures ∙ c.in-Accepted.is in record {
       answer = sym e;
-      floats = t.0;
-      words = t.1;
+      floats = t.floats;
+      words = t.words;
     }
