@@ -7,23 +7,28 @@ use Rattle.adoption.proofs.adopt.Goals as goal
 
 pub returns-in-Refused : goal.returns-in-Refused
 returns-in-Refused c =
-    let e : (adoption_answer ((lent c.args.nodes c.args.node_floats.now c.args.node_words.now)) ((lent c.args.old_nodes c.args.old_floats.now c.args.old_words.now)) c.args.pairs.now c.args.ramp) ≡ Refused c.in-Refused.r = sym c.adoption_answer-answer.ensures ∙ c.in-Refused.is in record {
+    let a = c.args in
+    let new = lent a.nodes a.node_floats.now a.node_words.now in
+    let old = lent a.old_nodes a.old_floats.now a.old_words.now in
+    let e : adoption_answer new old a.pairs.now a.ramp ≡ Refused c.in-Refused.r = sym c.adoption_answer-answer.ensures ∙ c.in-Refused.is in
+    record {
       answer = sym e;
       floats = sym (floats_refused _ _ _ _ e);
       words = sym (words_refused _ _ _ _ e);
     }
 
 pub adopt_pairs-requires : goal.adopt_pairs-requires
-adopt_pairs-requires c =
-    let accepted : answered ((c.before.before.before.before.before.before.before.before.before.before{-?place-})) ≡ Accepted = sym c.adoption_answer-answer.ensures ∙ c.in_default.is in
-    accepted_fit _ _ _ _ (accepted)
+adopt_pairs-requires c = accepted_fit _ _ _ _ (sym c.adoption_answer-answer.ensures ∙ c.in_default.is)
 
 pub returns : goal.returns
 returns c =
-    let accepted : answered ((c.before.before.before.before.before.before.before.before.before.before{-?place-})) ≡ Accepted = sym c.adoption_answer-answer.ensures ∙ c.in_default.is in
-    let e = accepted in
-    let k = c.adopt_pairs.ensures in record {
+    let a = c.args in
+    let new = lent a.nodes a.node_floats.now a.node_words.now in
+    let old = lent a.old_nodes a.old_floats.now a.old_words.now in
+    let e : adoption_answer new old a.pairs.now a.ramp ≡ Accepted = sym c.adoption_answer-answer.ensures ∙ c.in_default.is in
+    let k = c.adopt_pairs.ensures in
+    record {
       answer = sym e;
-      floats = k.0 ∙ sym (floats_accepted _ _ _ _ e);
-      words = k.1 ∙ sym (words_accepted _ _ _ _ e);
+      floats = k.floats ∙ sym (floats_accepted _ _ _ _ e);
+      words = k.words ∙ sym (words_accepted _ _ _ _ e);
     }

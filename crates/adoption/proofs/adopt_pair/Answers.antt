@@ -1,25 +1,30 @@
 -- `adoption::adopt_pair` meets its contract. Assumes nothing.
 use mathlib.Core.Path.{◌≡◌, sym, ap, ◌∙◌}
+use Prim.Native.Nat.{ℕ, ◌<◌}
 use Rattle.node.specs.declared.Node.{Node}
 use Rattle.node.specs.Areas.{len_at, node_at}
-use Rattle.adoption.specs.Adoption.{lent}
+use Rattle.adoption.specs.Adoption.{Lent, lent, node_in}
 use Rattle.adoption.proofs.Pairs.{Taken, skip_new, skip_old, skip_len, skip_safe, new_room, new_good, areas_skipped, areas_taken}
 use Rattle.adoption.proofs.adopt_pair.Goals as goal
 
-taken : (c : tie.Else4) → (let s = start c in Taken (new s) (old s) s.args.n s.args.o)
+-- both nodes are there and of one len, and the new one is not safe: the pair is not skipped
+taken : (new old : Lent) {n o len len' : ℕ} {node : Node} → n < new.count → o < old.count → len ≡ len_at new.words n → len ≡ len' → len' ≡ len_at old.words o
+    → node ≡ node_in new n → node.safe ≡ 0 → Taken new old n o
 unfolding node_at
-taken c =
-    let e = else3 c in
+taken new old h k p e q l s =
     record {
-      here = e.before.before.before.before.before.if1.left;
-      there = e.before.before.before.before.if2.left;
-      lens = lens e;
-      not_safe = sym (ap (λ (m : Node). m.safe) c.before.before.load2.ensures) ∙ c.if4.false;
+      here = h;
+      there = k;
+      lens = sym p ∙ e ∙ q;
+      not_safe = sym (ap (λ (m : Node). m.safe) l) ∙ s;
     }
 
 pub returns-then-n-nodes : goal.returns-then-n-nodes
 returns-then-n-nodes c =
-    let r = areas_skipped ((lent c.args.nodes c.args.node_floats.now c.args.node_words.now)) ((lent c.args.old_nodes c.args.old_floats.now c.args.old_words.now)) c.args.n c.args.o c.args.ramp (skip_new ((lent c.args.nodes c.args.node_floats.now c.args.node_words.now)) ((lent c.args.old_nodes c.args.old_floats.now c.args.old_words.now)) _ _ c.if-n-nodes.true) in
+    let a = c.args in
+    let new = lent a.nodes a.node_floats.now a.node_words.now in
+    let old = lent a.old_nodes a.old_floats.now a.old_words.now in
+    let r = areas_skipped new old a.n a.o a.ramp (skip_new new old _ _ c.if-n-nodes.true) in
     record {
       floats = r.0;
       words = r.1;
@@ -27,7 +32,10 @@ returns-then-n-nodes c =
 
 pub returns-then-o-old_nodes : goal.returns-then-o-old_nodes
 returns-then-o-old_nodes c =
-    let r = areas_skipped ((lent c.args.nodes c.args.node_floats.now c.args.node_words.now)) ((lent c.args.old_nodes c.args.old_floats.now c.args.old_words.now)) c.args.n c.args.o c.args.ramp (skip_old ((lent c.args.nodes c.args.node_floats.now c.args.node_words.now)) ((lent c.args.old_nodes c.args.old_floats.now c.args.old_words.now)) _ _ c.if-n-nodes.false c.if-o-old_nodes.true) in
+    let a = c.args in
+    let new = lent a.nodes a.node_floats.now a.node_words.now in
+    let old = lent a.old_nodes a.old_floats.now a.old_words.now in
+    let r = areas_skipped new old a.n a.o a.ramp (skip_old new old _ _ c.if-n-nodes.false c.if-o-old_nodes.true) in
     record {
       floats = r.0;
       words = r.1;
@@ -35,9 +43,11 @@ returns-then-o-old_nodes c =
 
 pub returns-then-len_of : goal.returns-then-len_of
 returns-then-len_of c =
-    let r = areas_skipped ((lent c.args.nodes c.args.node_floats.now c.args.node_words.now)) ((lent c.args.old_nodes c.args.old_floats.now c.args.old_words.now)) c.args.n c.args.o c.args.ramp
-    (skip_len ((lent c.args.nodes c.args.node_floats.now c.args.node_words.now)) ((lent c.args.old_nodes c.args.old_floats.now c.args.old_words.now)) _ _ c.if-n-nodes.false c.if-o-old_nodes.false
-    (λ e. c.if-len_of.true (c.len_of.ensures ∙ e ∙ sym c.len_of-2.ensures))) in
+    let a = c.args in
+    let new = lent a.nodes a.node_floats.now a.node_words.now in
+    let old = lent a.old_nodes a.old_floats.now a.old_words.now in
+    let r = areas_skipped new old a.n a.o a.ramp
+    (skip_len new old _ _ c.if-n-nodes.false c.if-o-old_nodes.false (λ e. c.if-len_of.true (c.len_of.ensures ∙ e ∙ sym c.len_of-2.ensures))) in
     record {
       floats = r.0;
       words = r.1;
@@ -46,10 +56,12 @@ returns-then-len_of c =
 pub returns-then-node-ne0 : goal.returns-then-node-ne0
 unfolding node_at
 returns-then-node-ne0 c =
-    let lens : (let a = ((c.before.before.before.before.before.before.before.before.before.before{-?place-})).args in len_at a.node_words.now a.n ≡ len_at a.old_words.now a.o) = sym c.len_of.ensures ∙ c.if-len_of.false ∙ c.len_of-2.ensures in
-    let r = areas_skipped ((lent c.args.nodes c.args.node_floats.now c.args.node_words.now)) ((lent c.args.old_nodes c.args.old_floats.now c.args.old_words.now)) c.args.n c.args.o c.args.ramp
-    (skip_safe ((lent c.args.nodes c.args.node_floats.now c.args.node_words.now)) ((lent c.args.old_nodes c.args.old_floats.now c.args.old_words.now)) _ _ c.if-n-nodes.false c.if-o-old_nodes.false (lens)
-    (λ z. c.if-node-ne0.true (ap (λ (m : Node). m.safe) c.load-node.ensures ∙ z))) in
+    let a = c.args in
+    let new = lent a.nodes a.node_floats.now a.node_words.now in
+    let old = lent a.old_nodes a.old_floats.now a.old_words.now in
+    let lens : len_at a.node_words.now a.n ≡ len_at a.old_words.now a.o = sym c.len_of.ensures ∙ c.if-len_of.false ∙ c.len_of-2.ensures in
+    let r = areas_skipped new old a.n a.o a.ramp
+    (skip_safe new old _ _ c.if-n-nodes.false c.if-o-old_nodes.false lens (λ z. c.if-node-ne0.true (ap (λ (m : Node). m.safe) c.load-node.ensures ∙ z))) in
     record {
       floats = r.0;
       words = r.1;
@@ -57,17 +69,28 @@ returns-then-node-ne0 c =
 
 pub set-requires : goal.set-requires
 set-requires c =
-    let s = (start3 ((c.before.before.before.before.before.before{-?place-}))) in
-    (rw c.load-node.ensures (new_good s.pre (taken e{-?place-})).len, s.pre.short)
+    let a = c.args in
+    let new = lent a.nodes a.node_floats.now a.node_words.now in
+    let old = lent a.old_nodes a.old_floats.now a.old_words.now in
+    let t : Taken new old a.n a.o = taken new old c.if-n-nodes.false c.if-o-old_nodes.false c.len_of.ensures c.if-len_of.false c.len_of-2.ensures c.load-node.ensures c.if-node-ne0.false in
+    (rw c.load-node.ensures (new_good c.requires t).len, c.requires.short)
 
 pub store-requires : goal.store-requires
-store-requires c = new_room ((start3 ((c.before.before.before.before.before.before{-?place-})))).requires (taken e{-?place-})
+store-requires c =
+    let a = c.args in
+    let new = lent a.nodes a.node_floats.now a.node_words.now in
+    let old = lent a.old_nodes a.old_floats.now a.old_words.now in
+    new_room c.requires (taken new old c.if-n-nodes.false c.if-o-old_nodes.false c.len_of.ensures c.if-len_of.false c.len_of-2.ensures c.load-node.ensures c.if-node-ne0.false)
 
 pub returns : goal.returns
 returns c =
-    let s = (start3 ((c.before.before.before.before.before.before{-?place-}))) in
+    let a = c.args in
+    let new = lent a.nodes a.node_floats.now a.node_words.now in
+    let old = lent a.old_nodes a.old_floats.now a.old_words.now in
+    let t : Taken new old a.n a.o = taken new old c.if-n-nodes.false c.if-o-old_nodes.false c.len_of.ensures c.if-len_of.false c.len_of-2.ensures c.load-node.ensures c.if-node-ne0.false in
     let k = c.store.ensures in
-    let z = areas_taken (new s) (old s) s.args.n s.args.o s.args.ramp (taken e{-?place-}) c.load-node.ensures c.load-old.ensures c.set.ensures in record {
-      floats = k.0 ∙ z.0;
-      words = k.1 ∙ z.1;
+    let z = areas_taken new old a.n a.o a.ramp t c.load-node.ensures c.load-old.ensures c.set.ensures in
+    record {
+      floats = k.floats ∙ z.0;
+      words = k.words ∙ z.1;
     }

@@ -24,7 +24,7 @@ loop-k-preserved c =
     let start = lent a.nodes a.node_floats.now a.node_words.now in
     let old = lent a.old_nodes a.old_floats.now a.old_words.now in
     let k = c.adopt_pair.ensures in
-    (omega arith, going_on start old a.pairs.now a.ramp l.invariant.1 (omega arith) k.0 k.1)
+    (omega arith, going_on start old a.pairs.now a.ramp l.invariant.1 (omega arith) k.floats k.words)
 
 pub shape_of-node_floats : goal.shape_of-node_floats
 shape_of-node_floats c = c.loop-k.invariant.1.kept.floats

@@ -42,8 +42,10 @@ returns-in-Refused c =
 
 pub overflow_add-nodes : goal.overflow_add-nodes
 overflow_add-nodes c =
+    -- past the limits
     let within : first (limit_tests c.args.limits c.args.plan node_growth) Accepted ≡ Accepted = let a = c.args in
     limits_say a.limits a.plan node_growth c.node_growth.ensures c.limits_answer.ensures c.in_default.is in
+    -- so one more node can be counted
     let counted : c.args.plan.nodes + 1 ≤ c.args.limits.nodes = let a = c.args in
     let n = (limits_passed a.limits a.plan node_growth [] (accepted_none (limit_tests a.limits a.plan node_growth) Accepted (within)).0).0 in
     ltb-false _ _ (sym (node_over a.limits a.plan 0 0) ∙ n) in
@@ -79,6 +81,7 @@ returns-then-n-gt-MAX c =
 
 pub id_among-requires : goal.id_among-requires
 id_among-requires c =
+    -- past the areas
     let roomy : grows_past c.args.plan node_growth (lent_nodes c.args.floats (length c.args.words.now)) ≡ false = let a = c.args in
     node_past a.limits a.plan 0 a.floats (length a.words.now) ∙ or_is c.shorter.ensures c.shorter-2.ensures c.if-shorter.false in
     let a = c.args in

@@ -10,6 +10,7 @@ node_of-n-requires c = (settable _ _ _ _ _ c.requires).words_room
 
 pub load-node-requires : goal.load-node-requires
 load-node-requires c =
+    -- the areas have the node that was found
     let room : (let a = c.args in Room (c.node_of-n.result + 1) a.node_floats.now a.node_words.now) = rw c.node_of-n.ensures (node_room c.args.node_floats.now (settable _ _ _ _ _ c.requires)) in
     room
 

@@ -18,6 +18,7 @@ returns-then-shorter c = rw (le-ltb _ _ c.if-count-gt-MAX_NODES.false, or_is c.s
 
 pub any_bad-requires : goal.any_bad-requires
 any_bad-requires c =
+    -- past the tests 5 and 2
     let early : (let a = c.args in Early a.count a.floats (length a.words.now)) = record {
       over = le-ltb _ _ c.if-count-gt-MAX_NODES.false;
       short = or_is c.shorter.ensures c.shorter-2.ensures c.if-shorter.false;

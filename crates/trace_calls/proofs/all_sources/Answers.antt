@@ -23,6 +23,7 @@ returns-in-Refused c =
 
 pub slice_bounds-behind-end : goal.slice_bounds-behind-end
 slice_bounds-behind-end c =
+    -- the plan check accepted
     let fine : (let a = c.args in checked a.plan (short_lists a.plan a.indices.now a.node_words.now a.steps.now) a.indices.now a.node_words.now a.steps.now ≡ Accepted) = sym c.check_lists.ensures ∙ c.in_default.is in
     let a = c.args in step_words_lem a.plan a.indices.now a.node_words.now a.steps.now (fine)
 

@@ -11,6 +11,7 @@ returns-in-Refused c = let a = c.args in sym (clean_refused a.plan a.indices.now
 
 pub slice_bounds-all_clean-end : goal.slice_bounds-all_clean-end
 slice_bounds-all_clean-end c =
+    -- the plan check accepted
     let fine : (let a = c.args in
     checked a.plan (short_lists a.plan a.indices.now a.node_words.now a.steps.now) a.indices.now a.node_words.now a.steps.now ≡ Accepted) = sym c.check_lists.ensures ∙ c.in_default.is in
     let a = c.args in step_words_lem a.plan a.indices.now a.node_words.now a.steps.now (fine)

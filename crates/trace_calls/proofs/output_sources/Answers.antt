@@ -24,6 +24,7 @@ returns-in-Refused c =
 
 pub slice_bounds-behind-end : goal.slice_bounds-behind-end
 slice_bounds-behind-end c =
+    -- the plan check accepted
     let fine : (let a = c.args in checked a.plan (short_lists a.plan a.indices.now a.node_words.now a.steps.now) a.indices.now a.node_words.now a.steps.now ≡ Accepted) = sym c.check_lists.ensures ∙ c.in_default.is in
     let a = c.args in step_words_lem a.plan a.indices.now a.node_words.now a.steps.now (fine)
 
@@ -53,6 +54,7 @@ load-set-requires c =
 pub returns-then-list-count : goal.returns-then-list-count
 returns-then-list-count c =
     let fine : (let a = c.args in checked a.plan (short_lists a.plan a.indices.now a.node_words.now a.steps.now) a.indices.now a.node_words.now a.steps.now ≡ Accepted) = sym c.check_lists.ensures ∙ c.in_default.is in
+    -- the slot's set has the members that its list has
     let found : (let a = c.args in members c.load-set.result ≡ source_list a.slot (traced_steps a.plan a.indices.now a.steps.now)) = let a = c.args in
     let xs = traced_steps a.plan a.indices.now a.steps.now in
     let b = c.behind-n in

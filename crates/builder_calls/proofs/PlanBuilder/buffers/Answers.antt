@@ -15,6 +15,7 @@ use Rattle.builder_calls.proofs.PlanBuilder.buffers.Goals as goal
 
 pub put_numbers-requires : goal.put_numbers-requires
 put_numbers-requires c =
+    -- the call is accepted
     let fit : BuffersFit unit_limits c.args.plan c.args.n (length c.args.indices.now) = let a = c.args in
     buffers_fit unit_limits a.plan a.n (length a.indices.now) (sym c.buffers_answer.ensures ∙ c.in-Accepted.is) in
     let f = fit in

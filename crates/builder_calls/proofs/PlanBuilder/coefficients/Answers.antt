@@ -15,6 +15,7 @@ use Rattle.builder_calls.proofs.PlanBuilder.coefficients.Goals as goal
 
 pub put_floats-requires : goal.put_floats-requires
 put_floats-requires c =
+    -- the call is accepted
     let fit : CoefficientsFit unit_limits c.args.plan (length c.args.values.now) (length c.args.area.now) = let a = c.args in
     coefficients_fit unit_limits a.plan (length a.values.now) (length a.area.now) (sym c.coefficients_answer.ensures ∙ c.in-Accepted.is) in
     (fit).area

@@ -13,6 +13,7 @@ use Rattle.builder_calls.proofs.PlanBuilder.finish.Goals as goal
 
 pub overflow_mul-n : goal.overflow_mul-n
 overflow_mul-n c =
+    -- the call is accepted
     let fits : FinishFits unit_limits c.args.plan (length c.args.buffers.now) = let a = c.args in
     finish_fits unit_limits a.plan (length a.buffers.now) (sym c.finish_answer.ensures ∙ c.in-Accepted.is) in
     let f = fits in

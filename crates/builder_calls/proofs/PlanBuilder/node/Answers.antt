@@ -15,6 +15,7 @@ use Rattle.builder_calls.proofs.PlanBuilder.node.Goals as goal
 
 pub new-requires : goal.new-requires
 new-requires c =
+    -- the call is accepted
     let fits : NodeFits unit_limits c.args.plan c.args.id (length c.args.values.now) c.args.ramp c.args.safe (length c.args.floats.now) c.args.words.now = let a = c.args in
     node_fits unit_limits a.plan a.id (length a.values.now) a.ramp a.safe (length a.floats.now) a.words.now (sym c.node_answer.ensures ∙ c.in-Accepted.is) in
     (fits).ramp

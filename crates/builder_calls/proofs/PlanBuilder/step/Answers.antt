@@ -14,6 +14,7 @@ use Rattle.builder_calls.proofs.PlanBuilder.step.Goals as goal
 
 pub put_words-requires : goal.put_words-requires
 put_words-requires c =
+    -- the call is accepted
     let fits : StepFits unit_limits c.args.plan c.args.«record».now (length c.args.steps.now) = let a = c.args in
     step_fits unit_limits a.plan a.«record».now (length a.steps.now) (sym c.step_answer.ensures ∙ c.in-Accepted.is) in
     let f = fits in

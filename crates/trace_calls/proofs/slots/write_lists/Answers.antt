@@ -29,6 +29,7 @@ offset_bounds-counts-s c = omega (arith, c.loop-s-test.true, c.requires.0)
 
 pub bounds-counts-s : goal.bounds-counts-s
 bounds-counts-s c =
+    -- room for the slot's count
     let counts-room : c.loop-s.s < length c.loop-s.counts = omega (arith, c.loop-s-test.true, writing_counts c.loop-s.invariant, c.requires.2) in
     counts-room
 
@@ -37,6 +38,7 @@ offset_bounds-lists-at c = omega (arith, c.loop-s-test.true, c.requires.0)
 
 pub slice_bounds-list-count : goal.slice_bounds-list-count
 slice_bounds-list-count c =
+    -- and for its list
     let lists-room : c.loop-s.s * inputs + inputs ≤ length c.loop-s.lists = omega (arith, c.loop-s-test.true, writing_lists c.loop-s.invariant, c.requires.3) in
     omega (arith, lists-room)
 
