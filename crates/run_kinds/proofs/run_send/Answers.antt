@@ -10,7 +10,7 @@ end_block-requires c =
 
 pub returns : goal.returns
 returns c = let e = c.end_block.ensures in record {
-      floats = e.floats;
-      words = e.words;
-      buffers = c.send_buffers.ensures;
-    }
+  floats = e.floats;
+  words = e.words;
+  buffers = c.send_buffers.ensures;
+}

@@ -3,7 +3,7 @@ use Rattle.run_process.proofs.steps.run_block.Goals as goal
 
 pub run_steps-requires : goal.run_steps-requires
 run_steps-requires c = record {
-      fit = c.requires.fit;
-      ends = c.search_ends.ensures;
-      block_in_bounds = c.requires.block_in_bounds.0;
-    }
+  fit = c.requires.fit;
+  ends = c.search_ends.ensures;
+  block_in_bounds = c.requires.block_in_bounds.0;
+}
