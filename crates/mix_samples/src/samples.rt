@@ -44,7 +44,7 @@ pub fn scale_samples(x: &[f32], y: &mut [f32; PIECE], k: usize, g: Gain)
     requires x_len_bound { (length x.now ≤ whole_piece) × (k + length x.now ≤ max_ramp) }
     requires y_len { length y.old ≡ whole_piece }
     ensures y_len_2 { length y.new ≡ whole_piece }
-    ensures y_value { y.exit.now ≡ mixed_into (λ k x y. scaled g k x) k (length x.entry.now) x.entry.now y.entry.now }
+    ensures y_value { y.new ≡ mixed_into (λ k x y. scaled g k x) k (length x.now) x.now y.old }
 {
     let whole = g.on_ramp(k + x.len());
     for i in 0..x.len() {
@@ -83,7 +83,7 @@ pub fn load(x: &[f32], y: &mut [f32; PIECE])
     requires x_len_bound { length x.now ≤ whole_piece }
     requires y_len { length y.old ≡ whole_piece }
     ensures y_len_2 { length y.new ≡ whole_piece }
-    ensures y_value { y.exit.now ≡ mixed_into (λ k x y. x) 0 (length x.entry.now) x.entry.now y.entry.now }
+    ensures y_value { y.new ≡ mixed_into (λ k x y. x) 0 (length x.now) x.now y.old }
 {
     for i in 0..x.len() {
         y[i] = x[i];
