@@ -3,7 +3,6 @@ use mathlib.Core.Path.{sym, ◌∙◌}
 use borrow.Author.Tests.{lt-ltb, le-ltb}
 use lib.ListN.{length}
 use Rattle.lists.proofs.Bools.{or_is}
-use Rattle.plan.specs.Areas.{shorter}
 use Rattle.setting.specs.Setting.{setting_answer}
 use Rattle.setting.proofs.Setting.{Early, words_enough}
 use Rattle.setting.proofs.setting_answer.Goals as goal
