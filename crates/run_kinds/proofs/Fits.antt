@@ -23,7 +23,7 @@ use Rattle.plan.specs.declared.Plan.{Plan}
 use Rattle.plan.specs.declared.Span.{Span}
 use Rattle.plan.specs.Limits.{max_block}
 use Rattle.plan.specs.Check.{named, used, first_of}
-use Rattle.plan.specs.Sound.{Names}
+use Rattle.plan.specs.Sound.{Within, Names}
 use Rattle.plan.proofs.Spans.{names_length, names_first, used_sources, used_targets}
 use Rattle.run_kinds.specs.Loops.{NodeFit}
 
@@ -46,6 +46,11 @@ module _ (p : Plan) (indices : List ℕ) (area : List Float) (r : p.buffers * p.
         targets = span_inside d hd ed;
         apart = λ i k j m q. a i j (rw es at k) (rw ed at m) (ap (λ (zs : List ℕ). get_or zs i 0) (sym es) ∙ q ∙ ap (λ (zs : List ℕ). get_or zs j 0) ed);
       }
+
+-- ---- the channels that a Gain uses
+pub used_named : (indices : List ℕ) (s d : Span) → Within (length indices) d → {xs ys : List ℕ} → xs ≡ named indices s → ys ≡ named indices d
+    → mix.used xs ys ≡ named indices (first_of (min s.len d.len) s)
+used_named indices s d h es ed = used_sources indices s d es ed h
 
 -- ---- the rows of a node, as the sample loops take them
 pub rows_values : (floats : List Float) (n m : ℕ) → (n + 1) * node_float_count ≤ length floats → m ≤ max_values → {cur step target : List Float}
@@ -83,7 +88,7 @@ module _ {p : Plan} {indices : List ℕ} {floats : List Float} {words : List ℕ
   gain_apart a {xs} {ys} es ed =
       spans_apart p indices buffers f.area f.block (first_of (used src dst) src) (first_of (used src dst) dst)
       (names_first p indices src f.sources (used src dst) (omega arith)) (names_first p indices dst f.targets (used src dst) (omega arith)) a
-      (used_sources indices src dst es ed f.targets.within) (used_targets indices src dst es ed f.sources.within)
+      (used_named indices src dst f.targets.within es ed) (used_targets indices src dst es ed f.sources.within)
 
   -- a value or a weight for each row and column
   pub values_count : (k : ℕ) → src.len * dst.len ≤ k → {xs ys : List ℕ} → xs ≡ named indices src → ys ≡ named indices dst → length ys * length xs ≤ k

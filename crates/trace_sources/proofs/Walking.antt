@@ -2,11 +2,14 @@
 use mathlib.Core.Path.{◌≡◌, refl, sym, ap, ◌∙◌, subst}
 use mathlib.Core.Bool.{Bool, true, false, ◌&&◌, ◌||◌, cond, or_assoc, or-false}
 use mathlib.Core.List.{List, [], ◌∷◌, map}
+use mathlib.Core.Logic.{⊎_elim}
 use Prim.Native.Nat.{ℕ, ◌+◌, ◌-◌, ◌≤◌, ◌<◌, max}
 use native.Mathlib.Nat.{sub-zero}
 use native.Mathlib.Omega.{arith}
 use lib.Dec.{eqb}
 use lib.ListN.{length}
+use denote.Enum.Declared.{tag_of}
+use types.Run.{OneOf}
 use Rattle.lists.specs.Entries.{has}
 use Rattle.lists.proofs.Bools.{eqb_swap}
 use Rattle.sets.specs.declared.Set.{Set}
@@ -24,11 +27,17 @@ use Rattle.plan.specs.Loops.{slot_of}
 use Rattle.plan.proofs.Answers.{rest_of}
 use Rattle.plan.proofs.Words.{decoded_on, decoded_bad, decoded_none}
 use Rattle.plan.proofs.Accepted.{pass_placed, pass_rest}
+use Rattle.plan.specs.contracts.Step.{the_type}
 use Rattle.plan.proofs.Named.{slot_named_lem}
 use Rattle.trace.specs.Sources.{union, spread, joins, behind, slot_count}
 use Rattle.trace_sources.specs.Loops.{area_words, slot_words, sources_of, joined, with_slot, Fit, Spans}
 
--- ---- a step that is no Output
+-- ---- an Output, and another step, which is told by its tag
+pub no_output : {x : Step} → OneOf (0 ∷ 1 ∷ 2 ∷ 3 ∷ 4 ∷ []) (tag_of the_type x) → (a : Span) (o : ℕ) → x ≡ Output a o → ⊥
+no_output {x} h a o e =
+    ⊎_elim (λ q. omega arith) (⊎_elim (λ q. omega arith) (⊎_elim (λ q. omega arith) (⊎_elim (λ q. omega arith) (λ q. omega arith))))
+    (subst (λ (y : Step). OneOf (0 ∷ 1 ∷ 2 ∷ 3 ∷ 4 ∷ []) (tag_of the_type y)) e h)
+
 no_slot : (x : Step) → ((a : Span) (o : ℕ) → x ≡ Output a o → ⊥) → slot_of x ≡ []
 no_slot (Patch n c d) h = refl
 no_slot (Gain n a d) h = refl
