@@ -11,18 +11,22 @@ import re
 import sys
 
 WORD = r"[A-Za-z_À-ʯͰ-Ͽ℀-⅏][\w'₀-₉-]*"
-DECLARED = re.compile(rf"^\s*(?:abbrev |unfoldable |pattern |pub |axiom )*({WORD})((?: {WORD})*)(?: \{{[^}}]*\}})? : ")
+DECLARED = re.compile(rf"^\s*(?:abbrev |unfoldable |pattern |pub |axiom )*({WORD})((?: {WORD})*)(?: \{{[^}}]*\}})? :(?: |$)")
 TOKEN = re.compile(WORD)
 USE = re.compile(r"^\s*(?:pub |ghost )*use ([\w.'·-]+)\.\{([^}]*)\}")
 # Names whose snake case a parameter of Rust's or another name has. Of two names that fall together the lemma gets `_lem`, as a library's do.
 SPECIAL = {
     "nodeFloats": "node_float_count",
     "nodeWords": "node_word_count",
-    "step_words": "step_words_lem",
     "in_both": "in_both_lem",
     "plan_after": "plan_after_lem",
     "same_float": "same_float_lem",
 }
+# Two of them are fields too, and a list in an example, which keep the plain spelling.
+FIELDS = {"nodeFloats": "node_floats", "nodeWords": "node_words"}
+A_FIELD = re.compile(r"(?:^\s+pub |\.|[{;] |^ +)$")
+# Names that stand in src/, in braces or as binders.
+MORE = {"foldAnswer", "foldArea", "sendId", "backId", "lentTo"}
 
 
 def read(path):
@@ -61,7 +65,7 @@ def table():
     crates = {path.split("/")[1] for path in glob.glob("crates/*/src")}
     kit = of_libraries(crates)
     new = dict(SPECIAL)
-    for name in sorted(own()):
+    for name in sorted(own() | MORE):
         if not (name[0].isupper() or name in kit or name in SPECIAL) and snake(name) != name:
             new[name] = snake(name)
     # A definition's old name has a capital, a lemma's a dash.
@@ -70,7 +74,13 @@ def table():
 
 
 def turned(text, new):
-    return TOKEN.sub(lambda m: new.get(m[0], m[0]), text)
+    def to(m):
+        before, after = text[: m.start()], text[m.end() :]
+        if m[0] in FIELDS and A_FIELD.search(before) and (before.endswith(".") or re.match(r" (=|:) ", after)):
+            return FIELDS[m[0]]
+        return new.get(m[0], m[0])
+
+    return TOKEN.sub(to, text)
 
 
 def quoted(text, new):
@@ -103,11 +113,13 @@ def main(argv):
     for path in glob.glob("*.md") + glob.glob("docs/**/*.md", recursive=True) + glob.glob("oracle/*.md"):
         text = read(path)
         # In a document stand old names that the sources have no more, too.
+        here = dict(new)
         for it in set(TOKEN.findall(" ".join(re.findall(r"`[^`\n]*`", text)))):
             if it[0].islower() and it not in new and it not in all_own and snake(it) != it and snake(it) in all_own:
-                new = new | {it: snake(it)}
-        camel = {a: b for a, b in new.items() if "-" not in a}
-        out = turned(quoted(text, new), camel)
+                here[it] = new.get(snake(it), snake(it)) if "-" in it else snake(it)
+        parts = re.split(r"(`[^`\n]*`)", text)
+        camel = {a: b for a, b in here.items() if "-" not in a and "_" not in a}
+        out = "".join(turned(it, here if it.startswith("`") else camel) for it in parts)
         if out != text:
             with open(path, "w", encoding="utf-8") as f:
                 f.write(out)

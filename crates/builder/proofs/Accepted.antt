@@ -73,8 +73,8 @@ module _ (l : Limits) (s : BuilderState) where
       λ i. record {
         indices = k.indices.length i;
         coefficients = k.coefficients.length i;
-        node_float_count = k.floats.length i;
-        node_word_count = k.words.length i;
+        node_floats = k.floats.length i;
+        node_words = k.words.length i;
         step_words = k.steps.length i;
       }
 

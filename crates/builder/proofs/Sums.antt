@@ -109,8 +109,8 @@ module _ (p : Plan) (g h : Growth) where
   past_sum z =
       short_sum z.indices 1 p.indices g.indices h.indices
       or short_sum z.coefficients 1 p.coefficients g.coefficients h.coefficients
-      or short_sum z.node_float_count node_float_count p.nodes g.nodes h.nodes
-      or short_sum z.node_word_count node_word_count p.nodes g.nodes h.nodes
+      or short_sum z.node_floats node_float_count p.nodes g.nodes h.nodes
+      or short_sum z.node_words node_word_count p.nodes g.nodes h.nodes
       or short_sum z.step_words 1 p.words g.words h.words
 
 -- ---- ids that are new before a node is stored, and after it

@@ -45,7 +45,7 @@ empty_plan block = plan_with block 0 0 0 0 0 0
 -- ---- `buffers`: 5, 2
 
 abbrev pub lent_indices : ℕ → Lengths
-lent_indices n = record { indices = n; coefficients = 0; node_float_count = 0; node_word_count = 0; step_words = 0 }
+lent_indices n = record { indices = n; coefficients = 0; node_floats = 0; node_words = 0; step_words = 0 }
 
 abbrev pub buffers_tests : Limits → Plan → ℕ → ℕ → List Test
 buffers_tests l p n len = growth_tests l p (buffers_growth n) (lent_indices len) []
@@ -84,7 +84,7 @@ buffer_number p s i indices =
 -- ---- `coefficients`: 5, 2
 
 abbrev pub lent_coefficients : ℕ → Lengths
-lent_coefficients n = record { indices = 0; coefficients = n; node_float_count = 0; node_word_count = 0; step_words = 0 }
+lent_coefficients n = record { indices = 0; coefficients = n; node_floats = 0; node_words = 0; step_words = 0 }
 
 abbrev pub coefficients_tests : Limits → Plan → ℕ → ℕ → List Test
 coefficients_tests l p n len = growth_tests l p (coefficients_growth n) (lent_coefficients len) []
@@ -103,7 +103,7 @@ coefficients_span l p n len = outcome (coefficients_answer l p n len) (spanned.M
 -- ---- `node`: 5, 2, 7, 8, 10, and by request C-13 "14, at the builder last"
 
 abbrev pub lent_nodes : ℕ → ℕ → Lengths
-lent_nodes floats words = record { indices = 0; coefficients = 0; node_float_count = floats; node_word_count = words; step_words = 0 }
+lent_nodes floats words = record { indices = 0; coefficients = 0; node_floats = floats; node_words = words; step_words = 0 }
 
 -- "a node of over 24 values"
 abbrev pub too_many : ℕ → Bool
@@ -147,7 +147,7 @@ record_length [] = 0
 record_length (map ∷ ws) = 1 + fields map
 
 abbrev pub lent_steps : ℕ → Lengths
-lent_steps n = record { indices = 0; coefficients = 0; node_float_count = 0; node_word_count = 0; step_words = n }
+lent_steps n = record { indices = 0; coefficients = 0; node_floats = 0; node_words = 0; step_words = n }
 
 abbrev pub unreadable : Read → Bool
 unreadable (Found s next) = false

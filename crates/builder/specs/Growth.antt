@@ -50,13 +50,13 @@ limit_tests l p g = test over_limit (grows_over l p g) ∷ []
 pub record Lengths : Type 0 where
   pub indices : ℕ
   pub coefficients : ℕ
-  pub node_float_count : ℕ
-  pub node_word_count : ℕ
+  pub node_floats : ℕ
+  pub node_words : ℕ
   pub step_words : ℕ
 
 abbrev pub lengths_of : (indices coefficients floats words steps : ℕ) → Lengths
 lengths_of indices coefficients floats words steps =
-    record { indices = indices; coefficients = coefficients; node_float_count = floats; node_word_count = words; step_words = steps }
+    record { indices = indices; coefficients = coefficients; node_floats = floats; node_words = words; step_words = steps }
 
 abbrev pub too_short : ℕ → ℕ → Change → ℕ → Bool
 too_short length count change each = tested (λ k. shorter length k each) count change
@@ -65,8 +65,8 @@ abbrev pub grows_past : Plan → Growth → Lengths → Bool
 grows_past p g l =
     too_short l.indices p.indices g.indices 1
     || too_short l.coefficients p.coefficients g.coefficients 1
-    || too_short l.node_float_count p.nodes g.nodes node_float_count
-    || too_short l.node_word_count p.nodes g.nodes node_word_count
+    || too_short l.node_floats p.nodes g.nodes node_float_count
+    || too_short l.node_words p.nodes g.nodes node_word_count
     || too_short l.step_words p.words g.words 1
 
 -- the tests of a call with this growth: 5, 2, and then its own

@@ -67,8 +67,8 @@ lengths s =
     record {
       indices = length s.indices;
       coefficients = length s.coefficients;
-      node_float_count = length s.floats;
-      node_word_count = length s.words;
+      node_floats = length s.floats;
+      node_words = length s.words;
       step_words = length s.steps;
     }
 

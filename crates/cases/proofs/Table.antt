@@ -47,11 +47,11 @@ unfolding Writes setting_floats setting_words node_of
 case_3 = ((refl, refl, refl, refl), refl)
 
 -- "4. P Matrix [1, 0] at rest over 3 and infinity: 3. Gain 0 over infinity: NaN."
-pub case-4 :
+pub case_4 :
     Writes (stereo matrix_map (one ∷ plus_zero ∷ []) 1) (run_over 1 2 (three ∷ infinity ∷ []) 1 ∷ []) ((three ∷ []) ∷ [])
     × Writes (mono 1 gain_map plus_zero 0) (run_over 1 1 (infinity ∷ []) 1 ∷ []) ((nan ∷ []) ∷ [])
 unfolding Writes
-case-4 = ((refl, refl, refl, refl), (refl, refl, refl, refl))
+case_4 = ((refl, refl, refl, refl), (refl, refl, refl, refl))
 
 -- "5. P Matrix [1] over −0: +0."
 pub case_5 : Writes (mono 1 matrix_map one 0) (run_over 1 1 (minus_zero ∷ []) 1 ∷ []) ((plus_zero ∷ []) ∷ [])
@@ -59,18 +59,18 @@ unfolding Writes
 case_5 = (refl, refl, refl, refl)
 
 -- "6. P Send x = 2^−140, w = 2^−10, target 2^20: adds 2^−130 at rest, 0 while ramping."
-pub case-6 :
+pub case_6 :
     let runs = run_over 1 1 (half_to 140 ∷ []) 1 ∷ [] in
     Writes (sending 0 (half_to 10) (two_to 20) 0 0) runs ((half_to 130 ∷ []) ∷ []) × Writes (sending 0 (half_to 10) (two_to 20) 1 0) runs ((plus_zero ∷ []) ∷ [])
 unfolding Writes
-case-6 = ((refl, refl, refl, refl), (refl, refl, refl, refl))
+case_6 = ((refl, refl, refl, refl), (refl, refl, refl, refl))
 
 -- "7. P Round 1 + 2^−24 to 1; 1 + 3 × 2^−24 to 1 + 2^−22; 2^−150 to 0."
 pub case_7 : (narrowed (over 16777217 24) ≡ one) × (narrowed (over 16777219 24) ≡ over 4194305 22) × (narrowed (half_to 150) ≡ plus_zero)
 case_7 = (rounding.case_7_tie_down, rounding.case_7_tie_up, rounding.case_7_to_zero)
 
 -- "8. P Patch 3 to buffer 0, Clear 1, Send 0 to 1 with weight 0, Output 1 to slot 2: lists empty, empty, [3]; slot 3 is refused 15."
-pub case-8 :
+pub case_8 :
     let plan = sending 3 plus_zero plus_zero 0 2 in
     (sources_of plan 0 [] ≡ sources.Listed 0)
     × (sources_of plan 1 [] ≡ sources.Listed 0)
@@ -78,7 +78,7 @@ pub case-8 :
     × (list_of plan 2 (0 ∷ []) ≡ 3 ∷ [])
     × (sources_of plan 3 (0 ∷ []) ≡ sources.Refused (refusal 15 0))
 unfolding Writes sources_answer sources_area sift
-case-8 = (refl, refl, refl, refl, refl)
+case_8 = (refl, refl, refl, refl, refl)
 
 -- "9. P 5.1 to mono, all gains 0.5, LFE 0: 0.5 0.5 0.5 0 0.25 0.25; normalised 0.25 0.25 0.25 0 0.125 0.125."
 pub case_9 : (a b c d e f : Float) →
@@ -97,7 +97,7 @@ unfolding of_bits
 case_10 a b c d e f = (format.case_10_answer, format.case_10 a b c d e f)
 
 -- "11. Block 1,024 taken, 1,025 refused 1; Matrix 12 by 2 taken, 5 by 5 refused 7; input 255 taken, 256 refused 4."
-pub case-11 :
+pub case_11 :
     (new_answer 1024 ≡ answers.Accepted)
     × (new_answer 1025 ≡ answers.Refused (refusal 1 0))
     × (step_checked (matrix_map ∷ 0 ∷ 0 ∷ 12 ∷ 12 ∷ 2 ∷ []) ≡ answers.Accepted)
@@ -105,4 +105,4 @@ pub case-11 :
     × (step_checked (patch_map ∷ 255 ∷ 0 ∷ 0 ∷ []) ≡ answers.Accepted)
     × (step_checked (patch_map ∷ 256 ∷ 0 ∷ 0 ∷ []) ≡ answers.Refused (refusal 4 1))
 unfolding Writes checked
-case-11 = (refl, refl, refl, refl, refl, refl)
+case_11 = (refl, refl, refl, refl, refl, refl)

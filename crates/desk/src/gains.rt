@@ -2,7 +2,7 @@
 ghost use Rattle.std.specs.Prelude.{◌≡◌, true, length};
 ghost use Rattle.format_balance.specs.Balance.{balance_answer, balance_area};
 ghost use Rattle.format_fold.specs.Bs775.{standard_gains};
-ghost use Rattle.format_fold.specs.Width.{width_answer as foldAnswer, width_area as foldArea};
+ghost use Rattle.format_fold.specs.Width.{width_answer as fold_answer, width_area as fold_area};
 ghost use Rattle.desk.specs.Gains.{stereo, width_answer, width_area};
 
 use format::Format;
@@ -41,7 +41,7 @@ pub fn width(w: f64, out: &mut [f32]) -> Answer
 
 // From one format to another: a row for each channel of dst, a column for each of src. The LFE is dropped where dst has none.
 pub fn folded(src: u32, dst: u32, out: &mut [f32]) -> Answer
-    ensures { (result ≡ foldAnswer src dst standard_gains (length out.old)) × (out.new ≡ foldArea src dst standard_gains true out.old) }
+    ensures { (result ≡ fold_answer src dst standard_gains (length out.old)) × (out.new ≡ fold_area src dst standard_gains true out.old) }
 {
     let gains = FoldGains {
         pan_left: HALF_POWER,

@@ -46,7 +46,7 @@ module _ (p : Plan) (short : Bool) (indices words steps : List ℕ) (e : checked
 
 -- the room of all six areas, where the call tested them, and of three
 pub accepted_room : (p : Plan) (a : Areas) → check_plan p a ≡ Accepted → Room p a
-accepted_room p a e = (areas_none p a).0 (accepted_sound p (short_areas p a) a.indices a.node_word_count a.step_words e).areas
+accepted_room p a e = (areas_none p a).0 (accepted_sound p (short_areas p a) a.indices a.node_words a.step_words e).areas
 
 pub accepted_lists : (p : Plan) (indices words steps : List ℕ) → checked p (short_lists p indices words steps) indices words steps ≡ Accepted
     → ListRoom p indices words steps

@@ -60,15 +60,15 @@ shorter_each n count each h = go (ltb (n / each) count) refl
 pub record Room (p : Plan) (a : Areas) : Type 0 where
   pub indices : p.indices ≤ length a.indices
   pub coefficients : p.coefficients ≤ length a.coefficients
-  pub floats : p.nodes * node_float_count ≤ length a.node_float_count
-  pub words : p.nodes * node_word_count ≤ length a.node_word_count
+  pub floats : p.nodes * node_float_count ≤ length a.node_floats
+  pub words : p.nodes * node_word_count ≤ length a.node_words
   pub steps : p.words ≤ length a.step_words
   pub buffers : p.buffers * p.block ≤ length a.buffers
 
 pub record ListRoom (p : Plan) (indices words steps : List ℕ) : Type 0 where
   pub entries : p.indices ≤ length indices
   pub nodes : p.nodes * node_word_count ≤ length words
-  pub step_words_lem : p.words ≤ length steps
+  pub step_words : p.words ≤ length steps
 
 -- entries of one place each
 ones_fit : {n count : ℕ} → shorter n count 1 ≡ false → count ≤ n
@@ -110,15 +110,15 @@ module _ (p : Plan) where
     λ e.
         let b = or_none _ _ e in
         let a = or_none _ _ b.0 in
-        record { entries = ones_fit a.0; nodes = ltb-false _ _ a.1; step_words_lem = ones_fit b.1 },
-    λ h. rw (fit_ones h.entries, le-ltb _ _ h.nodes, fit_ones h.step_words_lem),
+        record { entries = ones_fit a.0; nodes = ltb-false _ _ a.1; step_words = ones_fit b.1 },
+    λ h. rw (fit_ones h.entries, le-ltb _ _ h.nodes, fit_ones h.step_words),
   )
 
   -- a call that is lent all six areas is lent these three
-  pub areas_lists : (a : Areas) → short_areas p a ≡ false → short_lists p a.indices a.node_word_count a.step_words ≡ false
+  pub areas_lists : (a : Areas) → short_areas p a ≡ false → short_lists p a.indices a.node_words a.step_words ≡ false
   areas_lists a e =
       let r = (areas_none a).0 e in
-      (lists_none a.indices a.node_word_count a.step_words).1 (record { entries = r.indices; nodes = r.words; step_words_lem = r.steps })
+      (lists_none a.indices a.node_words a.step_words).1 (record { entries = r.indices; nodes = r.words; step_words = r.steps })
 
 -- ---- number 8
 pub among_counted : (words : List ℕ) (id : ℕ) → Counted (λ n. id_among words n id) (λ n. eqb (id_at words n) id)

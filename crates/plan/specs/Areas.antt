@@ -6,14 +6,14 @@ use Rattle.plan.specs.declared.Plan.{Plan}
 pub record Areas : Type 0 where
   pub indices : List ℕ
   pub coefficients : List Float
-  pub node_float_count : List Float
-  pub node_word_count : List ℕ
+  pub node_floats : List Float
+  pub node_words : List ℕ
   pub step_words : List ℕ
   pub buffers : List Float
 
 abbrev pub areas : List ℕ → List Float → List Float → List ℕ → List ℕ → List Float → Areas
 areas indices coefficients floats words steps buffers =
-    record { indices = indices; coefficients = coefficients; node_float_count = floats; node_word_count = words; step_words = steps; buffers = buffers }
+    record { indices = indices; coefficients = coefficients; node_floats = floats; node_words = words; step_words = steps; buffers = buffers }
 
 -- an area of n places is shorter than `count` entries of `each` places
 abbrev pub shorter : ℕ → ℕ → ℕ → Bool
@@ -24,8 +24,8 @@ abbrev pub short_areas : Plan → Areas → Bool
 short_areas p a =
     shorter (length a.indices) p.indices 1
     || shorter (length a.coefficients) p.coefficients 1
-    || shorter (length a.node_float_count) p.nodes node_float_count
-    || shorter (length a.node_word_count) p.nodes node_word_count
+    || shorter (length a.node_floats) p.nodes node_float_count
+    || shorter (length a.node_words) p.nodes node_word_count
     || shorter (length a.step_words) p.words 1
     || shorter (length a.buffers) p.buffers p.block
 

@@ -109,4 +109,4 @@ checked p short indices words steps = first (plan_tests p short indices words st
 
 -- the plan check as a call of its own, which is lent all six areas
 abbrev pub check_plan : Plan → Areas → Answer
-check_plan p a = checked p (short_areas p a) a.indices a.node_word_count a.step_words
+check_plan p a = checked p (short_areas p a) a.indices a.node_words a.step_words

@@ -33,14 +33,14 @@ pub record Checked (p : Plan) (a : Areas) : Type 0 where
   pub block : p.block ≤ max_block
   pub limits : WithinLimits unit_limits p
   pub room : Room p a
-  pub ids : id_twice a.node_word_count p.nodes ≡ false
+  pub ids : id_twice a.node_words p.nodes ≡ false
   pub steps : Passes p a.indices (take p.words a.step_words) p.steps 0
   pub placed : Each (Placed p a.indices) (steps_of p a.step_words)
 
 pub tested : (p : Plan) (a : Areas) → check_plan p a ≡ Accepted → Checked p a
 unfolding checked
 tested p a e =
-    let t = (accepted_none (plan_tests p (short_areas p a) a.indices a.node_word_count a.step_words) Accepted e).0 in
+    let t = (accepted_none (plan_tests p (short_areas p a) a.indices a.node_words a.step_words) Accepted e).0 in
     let l = (limits_none unit_limits p).0 t.1.0 in
     let r = (areas_none p a).0 t.1.1.0 in
     record {
@@ -48,8 +48,8 @@ tested p a e =
       limits = l;
       room = r;
       ids = t.1.1.1.1.0;
-      steps = accepted_passes p (short_areas p a) a.indices a.node_word_count a.step_words e r.indices;
-      placed = accepted_placed p (short_areas p a) a.indices a.node_word_count a.step_words e r.indices;
+      steps = accepted_passes p (short_areas p a) a.indices a.node_words a.step_words e r.indices;
+      placed = accepted_placed p (short_areas p a) a.indices a.node_words a.step_words e r.indices;
     }
 
 -- ---- the channels of the steps, by their spans and by the buffers that those name
@@ -106,7 +106,7 @@ module _ (g : RunGiven) (s : State) where
 pub record Admitted (g : RunGiven) (s : State) : Type 0 where
   pub plan : check_plan g.plan (areas_of_lem g s) ≡ Accepted
   pub fit : Fit g.plan g.coefficients s
-  pub step_words_lem : g.plan.words ≤ length g.steps
+  pub step_words : g.plan.words ≤ length g.steps
   pub steps : Passes g.plan g.indices (take g.plan.words g.steps) g.plan.steps 0
   pub placed : Each (Placed g.plan g.indices) (steps_of g.plan g.steps)
   pub directory : directory_bad g.directory (length g.samples) ≡ false
@@ -129,7 +129,7 @@ admitted g s e =
         good = o.0;
         buffers = p.room.buffers;
       };
-      step_words_lem = p.room.steps;
+      step_words = p.room.steps;
       steps = p.steps;
       placed = p.placed;
       directory = o.1.0;

@@ -93,7 +93,7 @@ long_enough s d t =
     (record {
       entries = front_room s.plan.indices s.indices d.indices h.indices h.index_count;
       nodes = t.nodes;
-      step_words_lem = front_room s.plan.words s.steps d.words h.words h.word_count;
+      step_words = front_room s.plan.words s.steps d.words h.words h.word_count;
     })
 
 -- ---- the calls that are lent the index list, the node words and the step words

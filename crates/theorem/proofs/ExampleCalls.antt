@@ -55,11 +55,11 @@ other_differs same =
     let e : one ∷ [] ≡ two ∷ [] = (same 0 other_channel).1 in
     one_two (ap (sample_at 0) e)
 
-pub same-calls-needed :
+pub same_calls_needed :
     ((l : Lists) (s : ℕ) → Finished l.first → Finished l.second → total (a l) (first_journal l) ≡ total (b l) (second_journal l) → CleanPlan l → Alike l → NoRamps l
     → ListedCarryEqual l s → SameOutput l s) → ⊥
 unfolding definitions
-same-calls-needed claim =
+same_calls_needed claim =
     other_differs
     (claim other_lists 0 plain_built.finished doubled_built.finished refl refl refl (same_blocks other_lists refl) other_listed)
 
@@ -91,10 +91,10 @@ quiet_differs same =
     let z : ◌≡◌ {A = ℕ} 1 0 = ap (λ (xs : List Float). length xs) e in
     omega arith
 
-pub same-total-needed :
+pub same_total_needed :
     ((l : Lists) (s : ℕ) → Finished l.first → Finished l.second → accepted_calls l.first ≡ accepted_calls l.second → CleanPlan l → Alike l → NoRamps l
     → ListedCarryEqual l s → SameOutput l s) → ⊥
 unfolding definitions
-same-total-needed claim =
+same_total_needed claim =
     quiet_differs
     (claim quiet_lists 0 quiet_built.finished quiet_built.finished refl refl refl (same_blocks quiet_lists refl) quiet_listed)

@@ -25,15 +25,15 @@ use Rattle.theorem.proofs.ExampleParts.{definitions, one, two, three, four, six,
 -- ---- the plan: input 0 goes through an insert, which sends it twice as loud to slot 1 and takes input 3 back, and what the insert hands back goes to slot 0
 
 -- a mono insert on buffer 0, with nodes of these ids for the send, the return and the switch
-abbrev strip : (format sendId backId : ℕ) → InsertPoint
-strip format sendId backId =
+abbrev strip : (format send_id back_id : ℕ) → InsertPoint
+strip format send_id back_id =
     record {
       format = format;
       src = span 0 1;
       gain = two;
       slot = 1;
       ramp = 0;
-      ids = record { send = sendId; ret = backId; dry = 23; wet = 24; dryin = 25; wetin = 26 };
+      ids = record { send = send_id; ret = back_id; dry = 23; wet = 24; dryin = 25; wetin = 26 };
       returns = true;
       back = record { input = 4; channel = 1; gain = one; bypass = false };
     }

@@ -24,8 +24,8 @@ begun b =
       plan = empty_plan b.block;
       indices = b.lent.indices;
       coefficients = b.lent.coefficients;
-      floats = b.lent.node_float_count;
-      words = b.lent.node_word_count;
+      floats = b.lent.node_floats;
+      words = b.lent.node_words;
       steps = b.lent.step_words;
     }
 

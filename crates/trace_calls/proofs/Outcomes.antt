@@ -171,8 +171,8 @@ module _ (p : Plan) (indices words steps : List ℕ) where
           pass = accepted_passes p short indices words steps e (accepted_lists p indices words steps e).entries;
         }
 
-    pub step_words_lem : p.words ≡ length (take p.words steps)
-    step_words_lem = sym (length-take-le p.words steps (accepted_lists p indices words steps e).step_words_lem)
+    pub step_words : p.words ≡ length (take p.words steps)
+    step_words = sym (length-take-le p.words steps (accepted_lists p indices words steps e).step_words)
 
     pub few : slot_count (traced_steps p indices steps) ≤ slots
     few = inside_slots p indices [] (steps_of p steps) (accepted_sound p (short_lists p indices words steps) indices words steps e).inside

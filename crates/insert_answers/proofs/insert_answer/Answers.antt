@@ -38,14 +38,14 @@ roomy len count m a b e =
     let h = ltb-false len ((count + m) * node_word_count) (or_none a (ltb len ((count + m) * node_word_count)) (or_none (a || ltb len ((count + m) * node_word_count)) b e).0).1 in
     omega arith
 
-room : (p : Plan) (n : ℕ) (z : Lengths) (returns : Bool) → grows_past p (insert_growth returns n) z ≡ false → p.nodes * node_word_count ≤ z.node_word_count
+room : (p : Plan) (n : ℕ) (z : Lengths) (returns : Bool) → grows_past p (insert_growth returns n) z ≡ false → p.nodes * node_word_count ≤ z.node_words
 room p n z true e =
-    roomy z.node_word_count p.nodes 6
-    (too_short z.indices p.indices (Add (6 * n)) 1 || too_short z.coefficients p.coefficients (Add (n * n)) 1 || too_short z.node_float_count p.nodes (Add 6) node_float_count)
+    roomy z.node_words p.nodes 6
+    (too_short z.indices p.indices (Add (6 * n)) 1 || too_short z.coefficients p.coefficients (Add (n * n)) 1 || too_short z.node_floats p.nodes (Add 6) node_float_count)
     (too_short z.step_words p.words (Add (4 * n + 47)) 1) e
 room p n z false e =
-    roomy z.node_word_count p.nodes 1
-    (too_short z.indices p.indices (Add n) 1 || false || too_short z.node_float_count p.nodes (Add 1) node_float_count)
+    roomy z.node_words p.nodes 1
+    (too_short z.indices p.indices (Add n) 1 || false || too_short z.node_floats p.nodes (Add 1) node_float_count)
     (too_short z.step_words p.words (Add 10) 1) e
 
 pub returns-then-insert-ge-COUNT : goal.returns-then-insert-ge-COUNT

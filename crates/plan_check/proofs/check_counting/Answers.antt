@@ -78,7 +78,7 @@ pub slice_bounds-check_steps-end : goal.slice_bounds-check_steps-end
 slice_bounds-check_steps-end c =
     let a = c.args in
     let room = listed c.args.plan c.args.indices.now c.args.node_words.now c.args.steps.now (c.requires c.if-short.false) in
-    sym (length-take-le a.plan.words a.steps.now room.step_words_lem)
+    sym (length-take-le a.plan.words a.steps.now room.step_words)
 
 pub check_steps-requires : goal.check_steps-requires
 check_steps-requires c =

@@ -23,7 +23,7 @@ pub slice_bounds-run_block-end : goal.slice_bounds-run_block-end
 slice_bounds-run_block-end c =
     let fine : (admission ((given c.args.plan c.args.indices.now c.args.coefficients.now c.args.steps.now c.args.directory.now c.args.samples.now)) ((state c.args.node_floats.now c.args.node_words.now c.args.buffers.now c.args.output.now 0)) ≡ Accepted) = sym c.admission-answer.ensures ∙ c.in_default.is in
     let taken : (Admitted ((given c.args.plan c.args.indices.now c.args.coefficients.now c.args.steps.now c.args.directory.now c.args.samples.now)) ((state c.args.node_floats.now c.args.node_words.now c.args.buffers.now c.args.output.now 0))) = admitted _ _ (fine) in
-    sym (length-take-le c.args.plan.words c.args.steps.now (taken).step_words_lem)
+    sym (length-take-le c.args.plan.words c.args.steps.now (taken).step_words)
 
 pub run_block-requires : goal.run_block-requires
 run_block-requires c =

@@ -8,7 +8,7 @@ use Rattle.trace.specs.Sources.{no_sources, behind}
 use Rattle.trace.specs.Calls.{traced_steps}
 use Rattle.trace_sources.specs.Loops.{slot_words, list_at}
 use Rattle.trace_sources.proofs.Stored.{zeros_or}
-use Rattle.trace_calls.proofs.Outcomes.{all_by_plan, all_by_2, all_by_none, all_refused, all_listed, room, set_listed, tested, step_words_lem, few}
+use Rattle.trace_calls.proofs.Outcomes.{all_by_plan, all_by_2, all_by_none, all_refused, all_listed, room, set_listed, tested, step_words, few}
 use Rattle.trace_calls.proofs.all_sources.Goals as goal
 
 pub returns-in-Refused : goal.returns-in-Refused
@@ -25,7 +25,7 @@ pub slice_bounds-behind-end : goal.slice_bounds-behind-end
 slice_bounds-behind-end c =
     -- the plan check accepted
     let fine : (let a = c.args in checked a.plan (short_lists a.plan a.indices.now a.node_words.now a.steps.now) a.indices.now a.node_words.now a.steps.now ≡ Accepted) = sym c.check_lists.ensures ∙ c.in_default.is in
-    let a = c.args in step_words_lem a.plan a.indices.now a.node_words.now a.steps.now (fine)
+    let a = c.args in step_words a.plan a.indices.now a.node_words.now a.steps.now (fine)
 
 pub behind-n-requires : goal.behind-n-requires
 behind-n-requires c =

@@ -3,7 +3,7 @@ use mathlib.Core.Path.{◌≡◌, sym, ◌∙◌}
 use Rattle.refusal.specs.declared.Answer.TheVariants.{Accepted}
 use Rattle.plan.specs.Areas.{short_lists}
 use Rattle.plan.specs.Check.{checked}
-use Rattle.trace_calls.proofs.Outcomes.{tested, step_words_lem, clean_refused, clean_yes, clean_no}
+use Rattle.trace_calls.proofs.Outcomes.{tested, step_words, clean_refused, clean_yes, clean_no}
 use Rattle.trace_calls.proofs.clean_answer.Goals as goal
 
 pub returns-in-Refused : goal.returns-in-Refused
@@ -14,7 +14,7 @@ slice_bounds-all_clean-end c =
     -- the plan check accepted
     let fine : (let a = c.args in
     checked a.plan (short_lists a.plan a.indices.now a.node_words.now a.steps.now) a.indices.now a.node_words.now a.steps.now ≡ Accepted) = sym c.check_lists.ensures ∙ c.in_default.is in
-    let a = c.args in step_words_lem a.plan a.indices.now a.node_words.now a.steps.now (fine)
+    let a = c.args in step_words a.plan a.indices.now a.node_words.now a.steps.now (fine)
 
 pub all_clean-requires : goal.all_clean-requires
 all_clean-requires c =
