@@ -3,7 +3,7 @@ use Rattle.desk_nodes.proofs.adopt_all.Goals as goal
 
 pub returns : goal.returns
 returns c = record {
-      answer = cc;
-      floats = cc;
-      words = cc;
-    }
+  answer = cc;
+  floats = cc;
+  words = cc;
+}

@@ -50,7 +50,8 @@ room p n z false e =
 
 pub returns-then-insert-ge-COUNT : goal.returns-then-insert-ge-COUNT
 returns-then-insert-ge-COUNT c =
-    c.refused.ensures ∙ sym (insert_16 c.args.limits c.args.plan c.args.insert ((lengths_of c.args.indices c.args.coefficients c.args.floats (length c.args.words.now) c.args.steps)) c.args.words.now (le-leb 7 c.args.insert.format c.if-insert-ge-COUNT.true))
+    let z : Lengths = lengths_of c.args.indices c.args.coefficients c.args.floats (length c.args.words.now) c.args.steps in
+    c.refused.ensures ∙ sym (insert_16 c.args.limits c.args.plan c.args.insert z c.args.words.now (le-leb 7 c.args.insert.format c.if-insert-ge-COUNT.true))
 
 pub return_bad-requires : goal.return_bad-requires
 return_bad-requires c =
@@ -59,16 +60,18 @@ return_bad-requires c =
 
 pub returns-then-returns-return_bad : goal.returns-then-returns-return_bad
 returns-then-returns-return_bad c =
+    let z : Lengths = lengths_of c.args.indices c.args.coefficients c.args.floats (length c.args.words.now) c.args.steps in
     let known : unknown_format c.args.insert.format ≡ false = lt-leb 7 c.args.insert.format c.if-insert-ge-COUNT.false in
     c.refused-then-returns-return_bad.ensures
-    ∙ sym (insert_18 c.args.limits c.args.plan c.args.insert ((lengths_of c.args.indices c.args.coefficients c.args.floats (length c.args.words.now) c.args.steps)) c.args.words.now (known) (returned c.args.insert.returns c.return_bad.result c.channels-n.result c.args.insert.format c.args.insert.back c.return_bad.ensures c.channels-n.ensures c.if-returns-return_bad.true))
+    ∙ sym (insert_18 c.args.limits c.args.plan c.args.insert z c.args.words.now known (returned c.args.insert.returns c.return_bad.result c.channels-n.result c.args.insert.format c.args.insert.back c.return_bad.ensures c.channels-n.ensures c.if-returns-return_bad.true))
 
 pub returns-then-span_past : goal.returns-then-span_past
 returns-then-span_past c =
+    let z : Lengths = lengths_of c.args.indices c.args.coefficients c.args.floats (length c.args.words.now) c.args.steps in
     let known : unknown_format c.args.insert.format ≡ false = lt-leb 7 c.args.insert.format c.if-insert-ge-COUNT.false in
     c.refused-then-span_past.ensures
     ∙ sym
-    (insert_4 c.args.limits c.args.plan c.args.insert ((lengths_of c.args.indices c.args.coefficients c.args.floats (length c.args.words.now) c.args.steps)) c.args.words.now (known) (returned c.args.insert.returns c.return_bad.result c.channels-n.result c.args.insert.format c.args.insert.back c.return_bad.ensures c.channels-n.ensures c.if-returns-return_bad.false)
+    (insert_4 c.args.limits c.args.plan c.args.insert z c.args.words.now known (returned c.args.insert.returns c.return_bad.result c.channels-n.result c.args.insert.format c.args.insert.back c.return_bad.ensures c.channels-n.ensures c.if-returns-return_bad.false)
     (sym c.span_past.ensures ∙ c.if-span_past.true))
 
 pub insert_growth-growth-requires : goal.insert_growth-growth-requires
@@ -76,67 +79,76 @@ insert_growth-growth-requires c = omega (arith, c.channels-n.ensures, channels_l
 
 pub returns-in-Refused : goal.returns-in-Refused
 returns-in-Refused c =
+    let z : Lengths = lengths_of c.args.indices c.args.coefficients c.args.floats (length c.args.words.now) c.args.steps in
+    let g : Growth = insert_growth c.args.insert.returns (channels c.args.insert.format) in
     let known : unknown_format c.args.insert.format ≡ false = lt-leb 7 c.args.insert.format c.if-insert-ge-COUNT.false in
     let inside : past c.args.plan.indices c.args.insert.src ≡ false = sym c.span_past.ensures ∙ c.if-span_past.false in
-    let made : c.insert_growth-growth.result ≡ (insert_growth c.args.insert.returns (channels c.args.insert.format)) = c.insert_growth-growth.ensures ∙ ap (insert_growth c.args.insert.returns) c.channels-n.ensures in
+    -- the growth that the code makes
+    let made : c.insert_growth-growth.result ≡ g = c.insert_growth-growth.ensures ∙ ap (insert_growth c.args.insert.returns) c.channels-n.ensures in
     sym
-    (insert_5 c.args.limits c.args.plan c.args.insert ((lengths_of c.args.indices c.args.coefficients c.args.floats (length c.args.words.now) c.args.steps)) c.args.words.now (known) (returned c.args.insert.returns c.return_bad.result c.channels-n.result c.args.insert.format c.args.insert.back c.return_bad.ensures c.channels-n.ensures c.if-returns-return_bad.false) (inside)
+    (insert_5 c.args.limits c.args.plan c.args.insert z c.args.words.now known (returned c.args.insert.returns c.return_bad.result c.channels-n.result c.args.insert.format c.args.insert.back c.return_bad.ensures c.channels-n.ensures c.if-returns-return_bad.false) inside
     c.in-Refused.r
-    (limits_say c.args.limits c.args.plan ((insert_growth c.args.insert.returns (channels c.args.insert.format))) (made) c.limits_answer.ensures c.in-Refused.is))
+    (limits_say c.args.limits c.args.plan g made c.limits_answer.ensures c.in-Refused.is))
 
 pub returns-then-grows_past : goal.returns-then-grows_past
 returns-then-grows_past c =
+    let z : Lengths = lengths_of c.args.indices c.args.coefficients c.args.floats (length c.args.words.now) c.args.steps in
+    let g : Growth = insert_growth c.args.insert.returns (channels c.args.insert.format) in
     let known : unknown_format c.args.insert.format ≡ false = lt-leb 7 c.args.insert.format c.if-insert-ge-COUNT.false in
     let inside : past c.args.plan.indices c.args.insert.src ≡ false = sym c.span_past.ensures ∙ c.if-span_past.false in
-    let made : c.insert_growth-growth.result ≡ (insert_growth c.args.insert.returns (channels c.args.insert.format)) = c.insert_growth-growth.ensures ∙ ap (insert_growth c.args.insert.returns) c.channels-n.ensures in
-    let within : first (limit_tests c.args.limits c.args.plan ((insert_growth c.args.insert.returns (channels c.args.insert.format)))) Accepted ≡ Accepted = let a = c.args in
-    limits_say a.limits a.plan ((insert_growth c.args.insert.returns (channels c.args.insert.format))) (made) c.limits_answer.ensures c.in_default.is in
+    let made : c.insert_growth-growth.result ≡ g = c.insert_growth-growth.ensures ∙ ap (insert_growth c.args.insert.returns) c.channels-n.ensures in
+    let within : first (limit_tests c.args.limits c.args.plan g) Accepted ≡ Accepted = limits_say c.args.limits c.args.plan g made c.limits_answer.ensures c.in_default.is in
     c.refused-then-grows_past.ensures
     ∙ sym
-    (insert_2 c.args.limits c.args.plan c.args.insert ((lengths_of c.args.indices c.args.coefficients c.args.floats (length c.args.words.now) c.args.steps)) c.args.words.now (known) (returned c.args.insert.returns c.return_bad.result c.channels-n.result c.args.insert.format c.args.insert.back c.return_bad.ensures c.channels-n.ensures c.if-returns-return_bad.false) (inside) (within)
-    (areas c.args.plan (lengths_of c.args.indices c.args.coefficients c.args.floats (length c.args.words.now) c.args.steps) c.insert_growth-growth.result (insert_growth c.args.insert.returns (channels c.args.insert.format)) c.grows_past.result made c.grows_past.ensures c.if-grows_past.true))
+    (insert_2 c.args.limits c.args.plan c.args.insert z c.args.words.now known (returned c.args.insert.returns c.return_bad.result c.channels-n.result c.args.insert.format c.args.insert.back c.return_bad.ensures c.channels-n.ensures c.if-returns-return_bad.false) inside within
+    (areas c.args.plan z c.insert_growth-growth.result g c.grows_past.result made c.grows_past.ensures c.if-grows_past.true))
 
 pub insert_ids_taken-requires : goal.insert_ids_taken-requires
 insert_ids_taken-requires c =
-    let made : c.insert_growth-growth.result ≡ (insert_growth c.args.insert.returns (channels c.args.insert.format)) = c.insert_growth-growth.ensures ∙ ap (insert_growth c.args.insert.returns) c.channels-n.ensures in
-    room c.args.plan (channels c.args.insert.format) ((lengths_of c.args.indices c.args.coefficients c.args.floats (length c.args.words.now) c.args.steps)) c.args.insert.returns (areas c.args.plan (lengths_of c.args.indices c.args.coefficients c.args.floats (length c.args.words.now) c.args.steps) c.insert_growth-growth.result (insert_growth c.args.insert.returns (channels c.args.insert.format)) c.grows_past.result made c.grows_past.ensures c.if-grows_past.false)
+    let z : Lengths = lengths_of c.args.indices c.args.coefficients c.args.floats (length c.args.words.now) c.args.steps in
+    let g : Growth = insert_growth c.args.insert.returns (channels c.args.insert.format) in
+    let made : c.insert_growth-growth.result ≡ g = c.insert_growth-growth.ensures ∙ ap (insert_growth c.args.insert.returns) c.channels-n.ensures in
+    room c.args.plan (channels c.args.insert.format) z c.args.insert.returns (areas c.args.plan z c.insert_growth-growth.result g c.grows_past.result made c.grows_past.ensures c.if-grows_past.false)
 
 pub returns-then-insert_ids_taken : goal.returns-then-insert_ids_taken
 returns-then-insert_ids_taken c =
+    let z : Lengths = lengths_of c.args.indices c.args.coefficients c.args.floats (length c.args.words.now) c.args.steps in
+    let g : Growth = insert_growth c.args.insert.returns (channels c.args.insert.format) in
     let known : unknown_format c.args.insert.format ≡ false = lt-leb 7 c.args.insert.format c.if-insert-ge-COUNT.false in
     let inside : past c.args.plan.indices c.args.insert.src ≡ false = sym c.span_past.ensures ∙ c.if-span_past.false in
-    let made : c.insert_growth-growth.result ≡ (insert_growth c.args.insert.returns (channels c.args.insert.format)) = c.insert_growth-growth.ensures ∙ ap (insert_growth c.args.insert.returns) c.channels-n.ensures in
-    let within : first (limit_tests c.args.limits c.args.plan ((insert_growth c.args.insert.returns (channels c.args.insert.format)))) Accepted ≡ Accepted = let a = c.args in
-    limits_say a.limits a.plan ((insert_growth c.args.insert.returns (channels c.args.insert.format))) (made) c.limits_answer.ensures c.in_default.is in
+    let made : c.insert_growth-growth.result ≡ g = c.insert_growth-growth.ensures ∙ ap (insert_growth c.args.insert.returns) c.channels-n.ensures in
+    let within : first (limit_tests c.args.limits c.args.plan g) Accepted ≡ Accepted = limits_say c.args.limits c.args.plan g made c.limits_answer.ensures c.in_default.is in
     c.refused-then-insert_ids_taken.ensures
     ∙ sym
-    (insert_8 c.args.limits c.args.plan c.args.insert ((lengths_of c.args.indices c.args.coefficients c.args.floats (length c.args.words.now) c.args.steps)) c.args.words.now (known) (returned c.args.insert.returns c.return_bad.result c.channels-n.result c.args.insert.format c.args.insert.back c.return_bad.ensures c.channels-n.ensures c.if-returns-return_bad.false) (inside) (within)
-    (areas c.args.plan (lengths_of c.args.indices c.args.coefficients c.args.floats (length c.args.words.now) c.args.steps) c.insert_growth-growth.result (insert_growth c.args.insert.returns (channels c.args.insert.format)) c.grows_past.result made c.grows_past.ensures c.if-grows_past.false)
+    (insert_8 c.args.limits c.args.plan c.args.insert z c.args.words.now known (returned c.args.insert.returns c.return_bad.result c.channels-n.result c.args.insert.format c.args.insert.back c.return_bad.ensures c.channels-n.ensures c.if-returns-return_bad.false) inside within
+    (areas c.args.plan z c.insert_growth-growth.result g c.grows_past.result made c.grows_past.ensures c.if-grows_past.false)
     (sym c.insert_ids_taken.ensures ∙ c.if-insert_ids_taken.true))
 
 pub returns-then-insert-gt-MAX_RAMP : goal.returns-then-insert-gt-MAX_RAMP
 returns-then-insert-gt-MAX_RAMP c =
+    let z : Lengths = lengths_of c.args.indices c.args.coefficients c.args.floats (length c.args.words.now) c.args.steps in
+    let g : Growth = insert_growth c.args.insert.returns (channels c.args.insert.format) in
     let known : unknown_format c.args.insert.format ≡ false = lt-leb 7 c.args.insert.format c.if-insert-ge-COUNT.false in
     let inside : past c.args.plan.indices c.args.insert.src ≡ false = sym c.span_past.ensures ∙ c.if-span_past.false in
-    let made : c.insert_growth-growth.result ≡ (insert_growth c.args.insert.returns (channels c.args.insert.format)) = c.insert_growth-growth.ensures ∙ ap (insert_growth c.args.insert.returns) c.channels-n.ensures in
-    let within : first (limit_tests c.args.limits c.args.plan ((insert_growth c.args.insert.returns (channels c.args.insert.format)))) Accepted ≡ Accepted = let a = c.args in
-    limits_say a.limits a.plan ((insert_growth c.args.insert.returns (channels c.args.insert.format))) (made) c.limits_answer.ensures c.in_default.is in
+    let made : c.insert_growth-growth.result ≡ g = c.insert_growth-growth.ensures ∙ ap (insert_growth c.args.insert.returns) c.channels-n.ensures in
+    let within : first (limit_tests c.args.limits c.args.plan g) Accepted ≡ Accepted = limits_say c.args.limits c.args.plan g made c.limits_answer.ensures c.in_default.is in
     c.refused-then-insert-gt-MAX_RAMP.ensures
     ∙ sym
-    (insert_10 c.args.limits c.args.plan c.args.insert ((lengths_of c.args.indices c.args.coefficients c.args.floats (length c.args.words.now) c.args.steps)) c.args.words.now (known) (returned c.args.insert.returns c.return_bad.result c.channels-n.result c.args.insert.format c.args.insert.back c.return_bad.ensures c.channels-n.ensures c.if-returns-return_bad.false) (inside) (within)
-    (areas c.args.plan (lengths_of c.args.indices c.args.coefficients c.args.floats (length c.args.words.now) c.args.steps) c.insert_growth-growth.result (insert_growth c.args.insert.returns (channels c.args.insert.format)) c.grows_past.result made c.grows_past.ensures c.if-grows_past.false)
+    (insert_10 c.args.limits c.args.plan c.args.insert z c.args.words.now known (returned c.args.insert.returns c.return_bad.result c.channels-n.result c.args.insert.format c.args.insert.back c.return_bad.ensures c.channels-n.ensures c.if-returns-return_bad.false) inside within
+    (areas c.args.plan z c.insert_growth-growth.result g c.grows_past.result made c.grows_past.ensures c.if-grows_past.false)
     (sym c.insert_ids_taken.ensures ∙ c.if-insert_ids_taken.false)
     (lt-ltb _ _ c.if-insert-gt-MAX_RAMP.true))
 
 pub returns : goal.returns
 returns c =
+    let z : Lengths = lengths_of c.args.indices c.args.coefficients c.args.floats (length c.args.words.now) c.args.steps in
+    let g : Growth = insert_growth c.args.insert.returns (channels c.args.insert.format) in
     let known : unknown_format c.args.insert.format ≡ false = lt-leb 7 c.args.insert.format c.if-insert-ge-COUNT.false in
     let inside : past c.args.plan.indices c.args.insert.src ≡ false = sym c.span_past.ensures ∙ c.if-span_past.false in
-    let made : c.insert_growth-growth.result ≡ (insert_growth c.args.insert.returns (channels c.args.insert.format)) = c.insert_growth-growth.ensures ∙ ap (insert_growth c.args.insert.returns) c.channels-n.ensures in
-    let within : first (limit_tests c.args.limits c.args.plan ((insert_growth c.args.insert.returns (channels c.args.insert.format)))) Accepted ≡ Accepted = let a = c.args in
-    limits_say a.limits a.plan ((insert_growth c.args.insert.returns (channels c.args.insert.format))) (made) c.limits_answer.ensures c.in_default.is in
+    let made : c.insert_growth-growth.result ≡ g = c.insert_growth-growth.ensures ∙ ap (insert_growth c.args.insert.returns) c.channels-n.ensures in
+    let within : first (limit_tests c.args.limits c.args.plan g) Accepted ≡ Accepted = limits_say c.args.limits c.args.plan g made c.limits_answer.ensures c.in_default.is in
     sym
-    (insert_passes_all c.args.limits c.args.plan c.args.insert ((lengths_of c.args.indices c.args.coefficients c.args.floats (length c.args.words.now) c.args.steps)) c.args.words.now (known) (returned c.args.insert.returns c.return_bad.result c.channels-n.result c.args.insert.format c.args.insert.back c.return_bad.ensures c.channels-n.ensures c.if-returns-return_bad.false) (inside) (within)
-    (areas c.args.plan (lengths_of c.args.indices c.args.coefficients c.args.floats (length c.args.words.now) c.args.steps) c.insert_growth-growth.result (insert_growth c.args.insert.returns (channels c.args.insert.format)) c.grows_past.result made c.grows_past.ensures c.if-grows_past.false)
+    (insert_passes_all c.args.limits c.args.plan c.args.insert z c.args.words.now known (returned c.args.insert.returns c.return_bad.result c.channels-n.result c.args.insert.format c.args.insert.back c.return_bad.ensures c.channels-n.ensures c.if-returns-return_bad.false) inside within
+    (areas c.args.plan z c.insert_growth-growth.result g c.grows_past.result made c.grows_past.ensures c.if-grows_past.false)
     (sym c.insert_ids_taken.ensures ∙ c.if-insert_ids_taken.false)
     (le-ltb _ _ c.if-insert-gt-MAX_RAMP.false))

@@ -40,9 +40,6 @@ add_patches-two-requires c =
 pub add_gain-requires : goal.add_gain-requires
 add_gain-requires c = run_few c.args.before c.args.insert c.channels-n.ensures c.fresh-ret.ensures
 
-pub shape_of-indices : goal.shape_of-indices
-shape_of-indices c = omega (arith, c.indices-2-1.given, c.indices-1.given)
-
 pub returns : goal.returns
 returns c =
     λ co.

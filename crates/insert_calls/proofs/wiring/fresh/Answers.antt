@@ -4,6 +4,7 @@ use native.Mathlib.Nat.{mul-le-mul_right}
 use native.Mathlib.Omega.{arith}
 use Rattle.insert_calls.proofs.wiring.fresh.Goals as goal
 
+-- the run ends within the index list
 below : (start n k : ℕ) → k ≤ 5 → start + 6 * n ≤ 1024 → start + k * n ≤ 1024
 below start n k few room =
     let h : k * n ≤ 5 * n = mul-le-mul_right n few in

@@ -6,6 +6,6 @@ use Rattle.mixer.proofs.building.mixer_buffers.Goals as goal
 pub returns : goal.returns
 returns c =
     let e = c.buffers-made.ensures in record {
-      reply = c.span_reply.ensures ∙ (λ i. span_reply (e.1.0 i) (e.0 i));
-      indices = e.1.1;
+      reply = c.span_reply.ensures ∙ (λ i. span_reply (e.plan i) (e.answer i));
+      indices = e.indices;
     }

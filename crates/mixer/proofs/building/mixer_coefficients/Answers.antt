@@ -5,7 +5,7 @@ use Rattle.mixer.proofs.building.mixer_coefficients.Goals as goal
 
 pub returns : goal.returns
 returns c =
-    let e = c.coefficients_made.ensures in record {
-      reply = c.span_reply.ensures ∙ (λ i. span_reply (e.1.0 i) (e.0 i));
-      coefficients = e.1.1;
+    let e = c.coefficients-made.ensures in record {
+      reply = c.span_reply.ensures ∙ (λ i. span_reply (e.plan i) (e.answer i));
+      coefficients = e.area;
     }

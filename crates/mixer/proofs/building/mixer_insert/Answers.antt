@@ -5,8 +5,8 @@ use Rattle.mixer.proofs.building.mixer_insert.Goals as goal
 
 pub returns : goal.returns
 returns c =
-    let e = c.insert-made.ensures.0 in
-    let s = c.insert-made.ensures.1 in record {
+    let e = c.insert-made.ensures.answer in
+    let s = c.insert-made.ensures.state in record {
       reply = c.span_reply.ensures ∙ (λ i. span_reply (s i).plan (e i));
       indices = λ i. (s i).indices;
       coefficients = λ i. (s i).coefficients;

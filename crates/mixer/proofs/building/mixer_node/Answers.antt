@@ -5,10 +5,8 @@ use Rattle.mixer.proofs.building.mixer_node.Goals as goal
 
 pub returns : goal.returns
 returns c =
-    let e = c.node_made.ensures in
-    let r = (c.node_reply.ensures ∙ (λ i. node_reply (e.1.0 i) (e.0 i)), e.1.1) in
-    record {
-      reply = r.0;
-      floats = r.1.0;
-      words = r.1.1;
+    let e = c.node-made.ensures in record {
+      reply = c.node_reply.ensures ∙ (λ i. node_reply (e.plan i) (e.answer i));
+      floats = e.floats;
+      words = e.words;
     }

@@ -6,6 +6,6 @@ use Rattle.mixer.proofs.building.mixer_step.Goals as goal
 pub returns : goal.returns
 returns c =
     let e = c.step-made.ensures in record {
-      reply = c.plan_reply.ensures ∙ (λ i. plan_reply (e.1.0 i) (e.0 i));
-      steps = e.1.1;
+      reply = c.plan_reply.ensures ∙ (λ i. plan_reply (e.plan i) (e.answer i));
+      steps = e.steps;
     }

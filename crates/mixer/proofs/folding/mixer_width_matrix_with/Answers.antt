@@ -6,6 +6,6 @@ use Rattle.mixer.proofs.folding.mixer_width_matrix_with.Goals as goal
 pub returns : goal.returns
 returns c =
     let e = c.width_matrix_with.ensures in record {
-      reply = c.status_of.ensures ∙ ap status_of e.0;
-      matrix = e.1;
+      reply = c.status_of.ensures ∙ ap status_of e.answer;
+      matrix = e.out;
     }

@@ -5,10 +5,8 @@ use Rattle.mixer.proofs.running.mixer_set_param.Goals as goal
 
 pub returns : goal.returns
 returns c =
-    let e = c.set_param.ensures in
-    let r = (c.status_of.ensures ∙ ap status_of e.0, e.1) in
-    record {
-      reply = r.0;
-      floats = r.1.0;
-      words = r.1.1;
+    let e = c.set_param.ensures in record {
+      reply = c.status_of.ensures ∙ ap status_of e.answer;
+      floats = e.floats;
+      words = e.words;
     }

@@ -5,10 +5,8 @@ use Rattle.mixer.proofs.tracing.mixer_all_sources.Goals as goal
 
 pub returns : goal.returns
 returns c =
-    let e = c.all_sources.ensures in
-    let r = (c.all_reply.ensures ∙ ap all_reply e.0, e.1) in
-    record {
-      reply = r.0;
-      counts = r.1.0;
-      lists = r.1.1;
+    let e = c.all_sources.ensures in record {
+      reply = c.all_reply.ensures ∙ ap all_reply e.answer;
+      counts = e.counts;
+      lists = e.lists;
     }

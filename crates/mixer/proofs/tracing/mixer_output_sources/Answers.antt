@@ -6,6 +6,6 @@ use Rattle.mixer.proofs.tracing.mixer_output_sources.Goals as goal
 pub returns : goal.returns
 returns c =
     let e = c.output_sources.ensures in record {
-      reply = c.sources_reply.ensures ∙ ap sources_reply e.0;
-      list = e.1;
+      reply = c.sources_reply.ensures ∙ ap sources_reply e.answer;
+      list = e.list;
     }
