@@ -17,6 +17,12 @@ mod tables;
 mod traces;
 
 ghost use Rattle.std.specs.Prelude.{◌≡◌, length};
+ghost use Rattle.replay.specs.Lists.{Front};
+
+use std::fs;
+use std::fs::File;
+use std::io::Read;
+use std::rt::Env;
 
 // Room for the file. The `ensures` gives only the length, so that no proof looks at the zeros.
 fn room() -> [u8; 1179648]
@@ -25,20 +31,43 @@ fn room() -> [u8; 1179648]
     [0; 1179648]
 }
 
-fn read(fd: i32) {
+// Reads until the room is full, the file ends or a read fails, and gives how many bytes stand at the start of the room.
+fn read_full(file: &mut File, room: &mut [u8]) -> usize
+    ensures { Front result room.new }
+{
+    let mut done = 0;
+    while done < room.len() {
+        let n = file.read(&mut room[done..]).unwrap_or(0);
+        if n == 0 {
+            break;
+        }
+        done += n;
+    }
+    done
+}
+
+fn read(file: &mut File) {
     let mut bytes = room();
-    let n = io::read_full(fd, &mut bytes);
+    let n = read_full(file, &mut bytes);
     file::replay(&bytes[..n]);
 }
 
-fn main() {
-    let mut path = io::buffer();
-    let length = os::arg(1, &mut path);
-    let fd = os::open_read(&path[..length]);
-    if fd < 0 {
-        text::put(b"bad data: no file that can be read is named\n");
-        return;
+// The file of this name, where it is text and can be read.
+fn opened(rt: &HostRuntime, name: &[u8]) -> Option<File> {
+    let name = str::from_utf8(name).ok()?;
+    fs::open(rt, name).ok()
+}
+
+// The file that the first argument names.
+fn named(rt: &HostRuntime) -> Option<File> {
+    let mut name = [0u8; 4096];
+    let length = rt.arg(1, &mut name).unwrap_or(0);
+    opened(rt, &name[..length])
+}
+
+fn main(rt: HostRuntime) {
+    match named(&rt) {
+        Some(mut file) => read(&mut file),
+        None => text::put(b"bad data: no file that can be read is named\n"),
     }
-    read(fd);
-    libc::close(fd);
 }
