@@ -1,4 +1,4 @@
-// Text on the standard output, for the programs. No contract says what is written: `rt check` compares it with a program's file `stdout`.
+// Text on the standard output, for the programs. No contract says what is written: `rt ci` compares it with a program's file `stdout`.
 #![tactic(auto)]
 
 use refusal::Refusal;
