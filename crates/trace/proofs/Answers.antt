@@ -147,13 +147,13 @@ module _ (p : Plan) (indices words steps counts lists : List ℕ) where
           let o = or_none (ltb (length counts) slots) (ltb (length lists) (slots * inputs)) t.1.0 in
           let c = outcome_accepted all (counts_of lists_of_lem slots counts) (λ _. counts) a in
           let l = outcome_accepted all (lists_of lists_of_lem slots lists) (λ _. lists) a in
-          let counts-room = ltb-false (length counts) slots o.0 in
-          let lists-room = ltb-false (length lists) (slots * inputs) o.1 in
+          let counts_room = ltb-false (length counts) slots o.0 in
+          let lists_room = ltb-false (length lists) (slots * inputs) o.1 in
           record {
             accepted = none_accepted all_plan t.0;
             count = q;
-            numbers = λ s h. ap (λ (m : List ℕ). get_or m s 0) c ∙ upto_at (λ s. length (lists_of_lem s)) slots counts s 0 (omega (arith, h, q)) (omega (arith, h, q, counts-room));
-            parts = λ s h. ap (part (s * inputs) (length (lists_of_lem s))) l ∙ lists_at lists_of_lem list_fits slots lists s (omega (arith, h, q)) lists-room;
+            numbers = λ s h. ap (λ (m : List ℕ). get_or m s 0) c ∙ upto_at (λ s. length (lists_of_lem s)) slots counts s 0 (omega (arith, h, q)) (omega (arith, h, q, counts_room));
+            parts = λ s h. ap (part (s * inputs) (length (lists_of_lem s))) l ∙ lists_at lists_of_lem list_fits slots lists s (omega (arith, h, q)) lists_room;
             other_counts = λ i h. ap (λ (m : List ℕ). get_or m i 0) c ∙ upto_past (λ s. length (lists_of_lem s)) slots counts i 0 (omega (arith, h, q));
             other_places = λ i h. ap (λ (m : List ℕ). get_or m i 0) l ∙ lists_kept lists_of_lem slots lists i (λ s k. h s (omega (arith, k, q)));
           }

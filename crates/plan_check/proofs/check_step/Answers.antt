@@ -14,27 +14,27 @@ returns-then-step_outside c =
 
 pub returns-then-step_wide : goal.returns-then-step_wide
 returns-then-step_wide c =
-    let not-4 : (outside c.args.plan c.args.step ≡ false) = sym c.step_outside.ensures ∙ c.if-step_outside.false in
+    let not_4 : (outside c.args.plan c.args.step ≡ false) = sym c.step_outside.ensures ∙ c.if-step_outside.false in
     let a = c.args in
     ap Refused c.at-then-step_wide.ensures
-    ∙ sym (step_7 a.plan a.indices.now a.place a.step (not-4) (sym c.step_wide.ensures ∙ c.if-step_wide.true))
+    ∙ sym (step_7 a.plan a.indices.now a.place a.step (not_4) (sym c.step_wide.ensures ∙ c.if-step_wide.true))
 
 pub step_shares-requires : goal.step_shares-requires
 step_shares-requires c =
-    let not-4 : (outside c.args.plan c.args.step ≡ false) = sym c.step_outside.ensures ∙ c.if-step_outside.false in
-    (c.requires.0, not-4, c.requires.1)
+    let not_4 : (outside c.args.plan c.args.step ≡ false) = sym c.step_outside.ensures ∙ c.if-step_outside.false in
+    (c.requires.0, not_4, c.requires.1)
 
 pub returns-then-step_shares : goal.returns-then-step_shares
 returns-then-step_shares c =
-    let not-4 : (outside c.args.plan c.args.step ≡ false) = sym c.step_outside.ensures ∙ c.if-step_outside.false in
-    let not-7 : too_wide c.args.step ≡ false = sym c.step_wide.ensures ∙ c.if-step_wide.false in
+    let not_4 : (outside c.args.plan c.args.step ≡ false) = sym c.step_outside.ensures ∙ c.if-step_outside.false in
+    let not_7 : too_wide c.args.step ≡ false = sym c.step_wide.ensures ∙ c.if-step_wide.false in
     let a = c.args in
     ap Refused c.at-then-step_shares.ensures
-    ∙ sym (step_6 a.plan a.indices.now a.place a.step (not-4) (not-7) (sym c.step_shares.ensures ∙ c.if-step_shares.true))
+    ∙ sym (step_6 a.plan a.indices.now a.place a.step (not_4) (not_7) (sym c.step_shares.ensures ∙ c.if-step_shares.true))
 
 pub returns : goal.returns
 returns c =
-    let not-4 : (outside c.args.plan c.args.step ≡ false) = sym c.step_outside.ensures ∙ c.if-step_outside.false in
-    let not-7 : too_wide c.args.step ≡ false = sym c.step_wide.ensures ∙ c.if-step_wide.false in
+    let not_4 : (outside c.args.plan c.args.step ≡ false) = sym c.step_outside.ensures ∙ c.if-step_outside.false in
+    let not_7 : too_wide c.args.step ≡ false = sym c.step_wide.ensures ∙ c.if-step_wide.false in
     let a = c.args in
-    sym (step_accepted a.plan a.indices.now a.place a.step (not-4) (not-7) (sym c.step_shares.ensures ∙ c.if-step_shares.false))
+    sym (step_accepted a.plan a.indices.now a.place a.step (not_4) (not_7) (sym c.step_shares.ensures ∙ c.if-step_shares.false))

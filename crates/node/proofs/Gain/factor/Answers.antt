@@ -21,8 +21,8 @@ use Rattle.node.proofs.Gain.factor.Goals as goal
 signed : (n : ℕ) → n ≤ max_ramp → to_z w32 n ≡ pos n
 signed n h = to_z_pos w32 (omega arith)
 
-signed-exact : (k i : ℕ) → k < max_ramp → i ≤ 1 → T (in_float binary32 (to_z w32 (k + i)))
-signed-exact k i h l = rw (signed (k + i) (omega arith)) (exact (k + i) (omega arith))
+signed_exact : (k i : ℕ) → k < max_ramp → i ≤ 1 → T (in_float binary32 (to_z w32 (k + i)))
+signed_exact k i h l = rw (signed (k + i) (omega arith)) (exact (k + i) (omega arith))
 
 abbrev moved : Float → Float → ℕ → Float
 moved cur step k = add binary32 cur (mul binary32 step (of_int binary32 (to_z w32 (k + 1))))
@@ -39,7 +39,7 @@ module _ {g : Gain} {cur step t : Float} {left : ℕ} (e : g ≡ Moving cur step
   chosen q = q ∙ rw (signed (k + 1) (omega arith), e)
 
 pub int_to_float-v : goal.int_to_float-v
-int_to_float-v c = signed-exact c.args.k _ c.requires.0 (lit≤ tt)
+int_to_float-v c = signed_exact c.args.k _ c.requires.0 (lit≤ tt)
 
 pub returns-then-whole : goal.returns-then-whole
 returns-then-whole c = on_it c.in-Moving.is c.args.k c.requires.0 (c.requires.1 c.if-whole.true)

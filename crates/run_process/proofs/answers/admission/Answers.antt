@@ -33,22 +33,22 @@ returns-then-any_bad c =
 pub returns-then-directory_bad : goal.returns-then-directory_bad
 returns-then-directory_bad c =
     let told : ((check_plan c.args.plan (areas_of_lem ((given c.args.plan c.args.indices.now c.args.coefficients.now c.args.steps.now c.args.directory.now c.args.samples.now)) ((state c.args.floats.now c.args.words.now c.args.buffers.now c.args.output.now 0))) ≡ Accepted) × (c.in-Channels.n ≡ channels_of (steps_of c.args.plan c.args.steps.now))) = was_accepted _ _ _ (sym c.in-Channels.is ∙ c.count_channels-counted.ensures) in
-    let no-14 : (some_bad c.args.words.now c.args.plan.nodes ≡ false) = sym c.any_bad.ensures ∙ c.if-any_bad.false in
-    c.refused-then-directory_bad.ensures ∙ sym (by_12 ((given c.args.plan c.args.indices.now c.args.coefficients.now c.args.steps.now c.args.directory.now c.args.samples.now)) ((state c.args.floats.now c.args.words.now c.args.buffers.now c.args.output.now 0)) (told).0 (no-14) (sym c.directory_bad.ensures ∙ c.if-directory_bad.true))
+    let no_14 : (some_bad c.args.words.now c.args.plan.nodes ≡ false) = sym c.any_bad.ensures ∙ c.if-any_bad.false in
+    c.refused-then-directory_bad.ensures ∙ sym (by_12 ((given c.args.plan c.args.indices.now c.args.coefficients.now c.args.steps.now c.args.directory.now c.args.samples.now)) ((state c.args.floats.now c.args.words.now c.args.buffers.now c.args.output.now 0)) (told).0 (no_14) (sym c.directory_bad.ensures ∙ c.if-directory_bad.true))
 
 pub returns-then-shorter : goal.returns-then-shorter
 returns-then-shorter c =
     let told : ((check_plan c.args.plan (areas_of_lem ((given c.args.plan c.args.indices.now c.args.coefficients.now c.args.steps.now c.args.directory.now c.args.samples.now)) ((state c.args.floats.now c.args.words.now c.args.buffers.now c.args.output.now 0))) ≡ Accepted) × (c.in-Channels.n ≡ channels_of (steps_of c.args.plan c.args.steps.now))) = was_accepted _ _ _ (sym c.in-Channels.is ∙ c.count_channels-counted.ensures) in
-    let no-14 : (some_bad c.args.words.now c.args.plan.nodes ≡ false) = sym c.any_bad.ensures ∙ c.if-any_bad.false in
-    let no-12 : (directory_bad c.args.directory.now (length c.args.samples.now) ≡ false) = sym c.directory_bad.ensures ∙ c.if-directory_bad.false in
+    let no_14 : (some_bad c.args.words.now c.args.plan.nodes ≡ false) = sym c.any_bad.ensures ∙ c.if-any_bad.false in
+    let no_12 : (directory_bad c.args.directory.now (length c.args.samples.now) ≡ false) = sym c.directory_bad.ensures ∙ c.if-directory_bad.false in
     let h = ltb-true (length c.args.output.now) (c.in-Channels.n * c.args.plan.block) (sym c.shorter.ensures ∙ c.if-shorter.true) in
     c.refused-then-shorter.ensures
-    ∙ sym (by_13 ((given c.args.plan c.args.indices.now c.args.coefficients.now c.args.steps.now c.args.directory.now c.args.samples.now)) ((state c.args.floats.now c.args.words.now c.args.buffers.now c.args.output.now 0)) (told).0 (no-14) (no-12) (rw (told).1 at h))
+    ∙ sym (by_13 ((given c.args.plan c.args.indices.now c.args.coefficients.now c.args.steps.now c.args.directory.now c.args.samples.now)) ((state c.args.floats.now c.args.words.now c.args.buffers.now c.args.output.now 0)) (told).0 (no_14) (no_12) (rw (told).1 at h))
 
 pub returns : goal.returns
 returns c =
     let told : ((check_plan c.args.plan (areas_of_lem ((given c.args.plan c.args.indices.now c.args.coefficients.now c.args.steps.now c.args.directory.now c.args.samples.now)) ((state c.args.floats.now c.args.words.now c.args.buffers.now c.args.output.now 0))) ≡ Accepted) × (c.in-Channels.n ≡ channels_of (steps_of c.args.plan c.args.steps.now))) = was_accepted _ _ _ (sym c.in-Channels.is ∙ c.count_channels-counted.ensures) in
-    let no-14 : (some_bad c.args.words.now c.args.plan.nodes ≡ false) = sym c.any_bad.ensures ∙ c.if-any_bad.false in
-    let no-12 : (directory_bad c.args.directory.now (length c.args.samples.now) ≡ false) = sym c.directory_bad.ensures ∙ c.if-directory_bad.false in
+    let no_14 : (some_bad c.args.words.now c.args.plan.nodes ≡ false) = sym c.any_bad.ensures ∙ c.if-any_bad.false in
+    let no_12 : (directory_bad c.args.directory.now (length c.args.samples.now) ≡ false) = sym c.directory_bad.ensures ∙ c.if-directory_bad.false in
     let h = ltb-false (length c.args.output.now) (c.in-Channels.n * c.args.plan.block) (sym c.shorter.ensures ∙ c.if-shorter.false) in
-    sym (by_none ((given c.args.plan c.args.indices.now c.args.coefficients.now c.args.steps.now c.args.directory.now c.args.samples.now)) ((state c.args.floats.now c.args.words.now c.args.buffers.now c.args.output.now 0)) (told).0 (no-14) (no-12) (rw (told).1 at h))
+    sym (by_none ((given c.args.plan c.args.indices.now c.args.coefficients.now c.args.steps.now c.args.directory.now c.args.samples.now)) ((state c.args.floats.now c.args.words.now c.args.buffers.now c.args.output.now 0)) (told).0 (no_14) (no_12) (rw (told).1 at h))

@@ -30,8 +30,8 @@ offset_bounds-counts-s c = omega (arith, c.loop-s-test.true, c.requires.0)
 pub bounds-counts-s : goal.bounds-counts-s
 bounds-counts-s c =
     -- room for the slot's count
-    let counts-room : c.loop-s.s < length c.loop-s.counts = omega (arith, c.loop-s-test.true, writing_counts c.loop-s.invariant, c.requires.2) in
-    counts-room
+    let counts_room : c.loop-s.s < length c.loop-s.counts = omega (arith, c.loop-s-test.true, writing_counts c.loop-s.invariant, c.requires.2) in
+    counts_room
 
 pub offset_bounds-lists-at : goal.offset_bounds-lists-at
 offset_bounds-lists-at c = omega (arith, c.loop-s-test.true, c.requires.0)
@@ -39,32 +39,32 @@ offset_bounds-lists-at c = omega (arith, c.loop-s-test.true, c.requires.0)
 pub slice_bounds-list-count : goal.slice_bounds-list-count
 slice_bounds-list-count c =
     -- and for its list
-    let lists-room : c.loop-s.s * inputs + inputs ≤ length c.loop-s.lists = omega (arith, c.loop-s-test.true, writing_lists c.loop-s.invariant, c.requires.3) in
-    omega (arith, lists-room)
+    let lists_room : c.loop-s.s * inputs + inputs ≤ length c.loop-s.lists = omega (arith, c.loop-s-test.true, writing_lists c.loop-s.invariant, c.requires.3) in
+    omega (arith, lists_room)
 
 pub slice_bounds-list-start : goal.slice_bounds-list-start
 slice_bounds-list-start c =
-    let lists-room : c.loop-s.s * inputs + inputs ≤ length c.loop-s.lists = omega (arith, c.loop-s-test.true, writing_lists c.loop-s.invariant, c.requires.3) in
-    omega (arith, lists-room)
+    let lists_room : c.loop-s.s * inputs + inputs ≤ length c.loop-s.lists = omega (arith, c.loop-s-test.true, writing_lists c.loop-s.invariant, c.requires.3) in
+    omega (arith, lists_room)
 
 pub list-requires : goal.list-requires
 list-requires c =
-    let lists-room : c.loop-s.s * inputs + inputs ≤ length c.loop-s.lists = omega (arith, c.loop-s-test.true, writing_lists c.loop-s.invariant, c.requires.3) in
-    simp (length-take, length-drop) (omega (arith, length_members_le c.load-set.result, lists-room))
+    let lists_room : c.loop-s.s * inputs + inputs ≤ length c.loop-s.lists = omega (arith, c.loop-s-test.true, writing_lists c.loop-s.invariant, c.requires.3) in
+    simp (length-take, length-drop) (omega (arith, length_members_le c.load-set.result, lists_room))
 
 pub overflow_add-s : goal.overflow_add-s
 overflow_add-s c = omega (arith, c.loop-s-test.true, c.requires.0)
 
 pub loop-s-preserved : goal.loop-s-preserved
 loop-s-preserved c =
-    let lists-room : c.loop-s.s * inputs + inputs ≤ length c.loop-s.lists = omega (arith, c.loop-s-test.true, writing_lists c.loop-s.invariant, c.requires.3) in
+    let lists_room : c.loop-s.s * inputs + inputs ≤ length c.loop-s.lists = omega (arith, c.loop-s-test.true, writing_lists c.loop-s.invariant, c.requires.3) in
     let l = c.loop-s in
     let at = l.s * inputs in
     let k = length l.lists - at in
     let set = c.load-set in
     let count = c.count in
     writing_on l.invariant c.loop-s-test.true count.result (count.ensures ∙ ap (λ (x : Set). length (members x)) set.ensures) _
-    (ap (put_mid at k l.lists) c.list.ensures ∙ lent_store l.lists at (members set.result) (omega (arith, length_members_le set.result, lists-room)) ∙ ap (λ (x : Set). sets l.lists at (members x)) set.ensures)
+    (ap (put_mid at k l.lists) c.list.ensures ∙ lent_store l.lists at (members set.result) (omega (arith, length_members_le set.result, lists_room)) ∙ ap (λ (x : Set). sets l.lists at (members x)) set.ensures)
 
 pub shape_of-counts : goal.shape_of-counts
 shape_of-counts c = writing_counts c.loop-s.invariant
