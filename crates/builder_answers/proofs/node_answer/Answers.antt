@@ -11,7 +11,7 @@ use Rattle.refusal.specs.Tests.{first}
 use Rattle.refusal.specs.declared.Answer.{Answer}
 use Rattle.refusal.specs.declared.Answer.TheVariants.{Accepted}
 use Rattle.refusal.proofs.Laws.{accepted_none}
-use Rattle.node.specs.Sizes.{node_float_count, node_word_count}
+use Rattle.node.specs.Sizes.{max_values, max_ramp, max_safe, node_float_count, node_word_count}
 use Rattle.plan.specs.declared.Plan.{Plan}
 use Rattle.plan.specs.declared.Limits.{Limits}
 use Rattle.plan.specs.Areas.{shorter}
@@ -95,7 +95,7 @@ returns-then-id_among c =
     sym
     (late c.args.limits c.args.plan c.args.id c.args.n c.args.ramp c.args.safe c.args.floats c.args.words.now
     c.node_growth.ensures c.limits_answer.ensures c.in_default.is c.shorter.ensures c.shorter-2.ensures c.if-shorter.false
-    ∙ rw (le-ltb _ _ c.if-n-gt-MAX.false, sym c.id_among.ensures ∙ c.if-id_among.true) (sym c.refused-then-id_among.ensures))
+    ∙ rw (le-ltb max_values c.args.n (omega arith), sym c.id_among.ensures ∙ c.if-id_among.true) (sym c.refused-then-id_among.ensures))
 
 pub returns-then-ramp-gt-MAX_RAMP : goal.returns-then-ramp-gt-MAX_RAMP
 unfolding node_answer
@@ -103,7 +103,7 @@ returns-then-ramp-gt-MAX_RAMP c =
     sym
     (late c.args.limits c.args.plan c.args.id c.args.n c.args.ramp c.args.safe c.args.floats c.args.words.now
     c.node_growth.ensures c.limits_answer.ensures c.in_default.is c.shorter.ensures c.shorter-2.ensures c.if-shorter.false
-    ∙ rw (le-ltb _ _ c.if-n-gt-MAX.false, sym c.id_among.ensures ∙ c.if-id_among.false, lt-ltb _ _ c.if-ramp-gt-MAX_RAMP.true) (sym c.refused-then-ramp-gt-MAX_RAMP.ensures))
+    ∙ rw (le-ltb max_values c.args.n (omega arith), sym c.id_among.ensures ∙ c.if-id_among.false, lt-ltb _ _ c.if-ramp-gt-MAX_RAMP.true) (sym c.refused-then-ramp-gt-MAX_RAMP.ensures))
 
 pub returns-then-safe-gt-MAX_SAFE : goal.returns-then-safe-gt-MAX_SAFE
 unfolding node_answer
@@ -112,9 +112,9 @@ returns-then-safe-gt-MAX_SAFE c =
     (late c.args.limits c.args.plan c.args.id c.args.n c.args.ramp c.args.safe c.args.floats c.args.words.now
     c.node_growth.ensures c.limits_answer.ensures c.in_default.is c.shorter.ensures c.shorter-2.ensures c.if-shorter.false
     ∙ rw (
-      le-ltb _ _ c.if-n-gt-MAX.false,
+      le-ltb max_values c.args.n (omega arith),
       sym c.id_among.ensures ∙ c.if-id_among.false,
-      le-ltb _ _ c.if-ramp-gt-MAX_RAMP.false,
+      le-ltb max_ramp c.args.ramp (omega arith),
       lt-ltb _ _ c.if-safe-gt-MAX_SAFE.true,
     )
     (sym c.refused-then-safe-gt-MAX_SAFE.ensures))
@@ -126,8 +126,8 @@ returns c =
     (late c.args.limits c.args.plan c.args.id c.args.n c.args.ramp c.args.safe c.args.floats c.args.words.now
     c.node_growth.ensures c.limits_answer.ensures c.in_default.is c.shorter.ensures c.shorter-2.ensures c.if-shorter.false
     ∙ rw (
-      le-ltb _ _ c.if-n-gt-MAX.false,
+      le-ltb max_values c.args.n (omega arith),
       sym c.id_among.ensures ∙ c.if-id_among.false,
-      le-ltb _ _ c.if-ramp-gt-MAX_RAMP.false,
-      le-ltb _ _ c.if-safe-gt-MAX_SAFE.false,
+      le-ltb max_ramp c.args.ramp (omega arith),
+      le-ltb max_safe c.args.safe (omega arith),
     ))

@@ -1,8 +1,10 @@
 -- `setting::setting_answer` meets its contract. Assumes nothing.
 use mathlib.Core.Path.{sym, ◌∙◌}
 use borrow.Author.Tests.{lt-ltb, le-ltb}
+use native.Mathlib.Omega.{arith}
 use lib.ListN.{length}
 use Rattle.lists.proofs.Bools.{or_is}
+use Rattle.node.specs.Sizes.{max_ramp}
 use Rattle.setting.specs.Setting.{setting_answer}
 use Rattle.setting.proofs.Setting.{Early, words_enough}
 use Rattle.setting.proofs.setting_answer.Goals as goal
@@ -78,7 +80,7 @@ returns-then-not-id_among c =
       short = or_is c.shorter.ensures c.shorter-2.ensures c.if-shorter.false;
     } in
     let e = early in
-    rw (e.over, e.short, sym c.any_bad.ensures ∙ c.if-any_bad.false, sym c.id_twice.ensures ∙ c.if-id_twice.false, le-ltb _ _ c.if-ramp-gt-MAX_RAMP.false, sym c.id_among.ensures ∙ c.if-not-id_among.true) c.refused-then-not-id_among.ensures
+    rw (e.over, e.short, sym c.any_bad.ensures ∙ c.if-any_bad.false, sym c.id_twice.ensures ∙ c.if-id_twice.false, le-ltb max_ramp c.args.ramp (omega arith), sym c.id_among.ensures ∙ c.if-not-id_among.true) c.refused-then-not-id_among.ensures
 
 pub returns : goal.returns
 unfolding setting_answer
@@ -88,4 +90,4 @@ returns c =
       short = or_is c.shorter.ensures c.shorter-2.ensures c.if-shorter.false;
     } in
     let e = early in
-    rw (e.over, e.short, sym c.any_bad.ensures ∙ c.if-any_bad.false, sym c.id_twice.ensures ∙ c.if-id_twice.false, le-ltb _ _ c.if-ramp-gt-MAX_RAMP.false, sym c.id_among.ensures ∙ c.if-not-id_among.false)
+    rw (e.over, e.short, sym c.any_bad.ensures ∙ c.if-any_bad.false, sym c.id_twice.ensures ∙ c.if-id_twice.false, le-ltb max_ramp c.args.ramp (omega arith), sym c.id_among.ensures ∙ c.if-not-id_among.false)
