@@ -109,23 +109,16 @@ fn folds_to(label: u32, dst: u32, g: FoldGains) -> Targets
 
 // Column s of m with the label added at the gain x: to its entry where dst has the label, else through what it turns into. Requires a label, a
 // format, and a column of at most 12.
-fn fold(
-    label: u32,
-    dst: u32,
-    x: f64,
-    g: FoldGains,
-    columns: usize,
-    s: usize,
-    mut m: Matrix,
-) -> Matrix
+fn fold(label: u32, dst: u32, x: f64, g: FoldGains, columns: usize, s: usize, m: Matrix) -> Matrix
     requires { (label < 15) × ((dst < 7) × ((s < columns) × (columns ≤ 12))) }
     ensures { result.entries ≡ folded depth g dst columns s label x m.entries }
 {
     let d = Format::index(dst, label);
     if d < Format::channels(dst) {
         let at = d * columns + s;
-        m.entries[at] = m.entries[at] + x;
-        return m;
+        let mut sum = m;
+        sum.entries[at] = sum.entries[at] + x;
+        return sum;
     }
     match folds_to(label, dst, g) {
         Targets::Nothing => m,

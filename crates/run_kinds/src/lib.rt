@@ -26,7 +26,9 @@ pub fn weights(coefficients: &[f32], span: Span) -> &[f32]
     &coefficients[start..end]
 }
 
-// The buffers after a Gain. Requires what the tests said of it.
+// The buffers after a Gain. Requires what the tests said of it. Not inlined, as those of a Matrix and a Send are not, so that
+// a run has the rows of one kind of step on the stack at a time.
+#[inline(never)]
 fn gain_buffers(
     plan: Plan,
     indices: &[u32],
@@ -52,6 +54,7 @@ fn gain_buffers(
 }
 
 // The buffers after a Matrix. Requires what the tests said of it.
+#[inline(never)]
 fn matrix_buffers(
     plan: Plan,
     indices: &[u32],
@@ -77,6 +80,7 @@ fn matrix_buffers(
 }
 
 // The buffers after a Send, by the weights `w`. Requires what the tests said of it.
+#[inline(never)]
 fn send_buffers(
     plan: Plan,
     indices: &[u32],

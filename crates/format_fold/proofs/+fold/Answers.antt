@@ -40,23 +40,23 @@ overflow_add-at t c =
     let a = c.args in
     omega (arith, at_cell a.dst _ _ a.s a.columns c.channels.ensures c.if-d-channels.true c.requires.1.1.0 c.requires.1.1.1)
 
-pub offset_bounds-m-at : goal.offset_bounds-m-at
-offset_bounds-m-at t c =
+pub offset_bounds-sum-at : goal.offset_bounds-sum-at
+offset_bounds-sum-at t c =
     let a = c.args in
     omega (arith, at_cell a.dst _ _ a.s a.columns c.channels.ensures c.if-d-channels.true c.requires.1.1.0 c.requires.1.1.1)
 
-pub bounds-m-at : goal.bounds-m-at
-bounds-m-at t c =
+pub bounds-sum-at : goal.bounds-sum-at
+bounds-sum-at t c =
     let a = c.args in
     at_cell a.dst _ _ a.s a.columns c.channels.ensures c.if-d-channels.true c.requires.1.1.0 c.requires.1.1.1
 
-pub offset_bounds-m-at-then-d-channels : goal.offset_bounds-m-at-then-d-channels
-offset_bounds-m-at-then-d-channels t c =
+pub offset_bounds-sum-at-then-d-channels : goal.offset_bounds-sum-at-then-d-channels
+offset_bounds-sum-at-then-d-channels t c =
     let a = c.args in
     omega (arith, at_cell a.dst _ _ a.s a.columns c.channels.ensures c.if-d-channels.true c.requires.1.1.0 c.requires.1.1.1)
 
-pub bounds-m-at-then-d-channels : goal.bounds-m-at-then-d-channels
-bounds-m-at-then-d-channels t c =
+pub bounds-sum-at-then-d-channels : goal.bounds-sum-at-then-d-channels
+bounds-sum-at-then-d-channels t c =
     let a = c.args in
     at_cell a.dst _ _ a.s a.columns c.channels.ensures c.if-d-channels.true c.requires.1.1.0 c.requires.1.1.1
 
