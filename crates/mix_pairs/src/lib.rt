@@ -83,7 +83,9 @@ pub fn add_two(area: &mut [f32], block: usize, s: usize, z: usize, d: usize, a: 
     add_two_last(area, from + r, other + r, to + r, block - r, r, a, b);
 }
 
-// d += s × w × gain, then d += z × v × gain, for m samples. Requires as `add_two_piece`.
+// d += s × w × gain, then d += z × v × gain, for m samples. Inlined, so that the gain is told apart once for all pieces. Requires as
+// `add_two_piece`.
+#[inline(always)]
 fn weigh_two_piece(
     area: &mut [f32],
     from: usize,
