@@ -1,67 +1,26 @@
--- Which test of an adoption answers, what an accepted one says, and what the call leaves by its answer. Assumes nothing.
+-- What an accepted adoption says, and what the call leaves by its answer. Assumes nothing.
 use mathlib.Core.Path.{◌≡◌}
-use mathlib.Core.Bool.{Bool, true, false, ◌||◌}
+use mathlib.Core.Bool.{false}
 use mathlib.Core.List.{List}
-use Prim.Native.Nat.{ℕ, ◌*◌, ◌%◌, ◌<◌, ◌≤◌}
+use Prim.Native.Nat.{ℕ, ◌*◌, ◌%◌, ◌≤◌}
 use lib.ListN.{length}
 use lib.Dec.{eqb}
-use borrow.Author.Tests.{ltb-false, eqb-true, lt-ltb, le-ltb, eq-eqb, ne_eqb, not-false}
+use borrow.Author.Tests.{ltb-false, eqb-true, not-false}
 use Rattle.lists.proofs.Bools.{or_none}
-use Rattle.refusal.specs.Numbers.{short_area, over_limit, long_ramp, odd_list, bad_node}
-use Rattle.refusal.specs.Tests.{refusal}
 use Rattle.refusal.specs.declared.Refusal.{Refusal}
-use Rattle.refusal.specs.declared.Answer.{Answer}
-use Rattle.refusal.specs.declared.Answer.TheVariants.{Accepted, Refused}
 use Rattle.refusal.proofs.Laws.{accepted_none, outcome_accepted, refused_keeps}
 use Rattle.node.specs.Sizes.{node_float_count, node_word_count, max_ramp}
 use Rattle.node.specs.Areas.{Room}
 use Rattle.plan.specs.Limits.{unit_limits}
 use Rattle.plan.specs.Areas.{shorter}
-use Rattle.adoption.specs.Adoption.{Lent, over_nodes, short_nodes, bad_nodes, adoption_tests, adoption_answer, pairs_adopted, adoption_floats, adoption_words}
+use Rattle.adoption.specs.Adoption.{Lent, short_nodes, bad_nodes, adoption_tests, adoption_answer, pairs_adopted, adoption_floats, adoption_words}
 use Rattle.adoption.specs.Fits.{Fit}
+use Rattle.std.specs.Prelude.{Ok, Err}
 
 pub enough : (l : Lent) → short_nodes l ≡ false → Room l.count l.floats l.words
 enough l e =
     let a = or_none (shorter (length l.floats) l.count node_float_count) _ e in
     (ltb-false (length l.floats) (l.count * node_float_count) a.0, ltb-false (length l.words) (l.count * node_word_count) a.1)
-
--- ---- the first test that holds answers
-module _ (new old : Lent) (pairs : List ℕ) (ramp : ℕ) where
-  abbrev over : Bool
-  over = over_nodes new || over_nodes old
-
-  abbrev short : Bool
-  short = short_nodes new || short_nodes old
-
-  abbrev bad : Bool
-  bad = bad_nodes new || bad_nodes old
-
-  abbrev answer : Answer
-  answer = adoption_answer new old pairs ramp
-
-  pub by_5 : over ≡ true → answer ≡ Refused (refusal over_limit 0)
-  unfolding adoption_answer
-  by_5 a = rw a
-
-  pub by_2 : over ≡ false → short ≡ true → answer ≡ Refused (refusal short_area 0)
-  unfolding adoption_answer
-  by_2 a b = rw (a, b)
-
-  pub by_11 : over ≡ false → short ≡ false → (length pairs % 2 ≡ 0 → ⊥) → answer ≡ Refused (refusal odd_list 0)
-  unfolding adoption_answer
-  by_11 a b c = rw (a, b, ne_eqb (length pairs % 2) 0 c)
-
-  pub by_14 : over ≡ false → short ≡ false → length pairs % 2 ≡ 0 → bad ≡ true → answer ≡ Refused (refusal bad_node 0)
-  unfolding adoption_answer
-  by_14 a b c d = rw (a, b, eq-eqb (length pairs % 2) 0 c, d)
-
-  pub by_10 : over ≡ false → short ≡ false → length pairs % 2 ≡ 0 → bad ≡ false → max_ramp < ramp → answer ≡ Refused (refusal long_ramp 0)
-  unfolding adoption_answer
-  by_10 a b c d e = rw (a, b, eq-eqb (length pairs % 2) 0 c, d, lt-ltb max_ramp ramp e)
-
-  pub by_none : over ≡ false → short ≡ false → length pairs % 2 ≡ 0 → bad ≡ false → ramp ≤ max_ramp → answer ≡ Accepted
-  unfolding adoption_answer
-  by_none a b c d e = rw (a, b, eq-eqb (length pairs % 2) 0 c, d, le-ltb max_ramp ramp e)
 
 -- ---- what an accepted adoption says
 pub record Adoptable (new old : Lent) (pairs : List ℕ) (ramp : ℕ) : Type 0 where
@@ -75,10 +34,10 @@ pub record Adoptable (new old : Lent) (pairs : List ℕ) (ramp : ℕ) : Type 0 w
   pub short : ramp ≤ max_ramp
 
 module _ (new old : Lent) (pairs : List ℕ) (ramp : ℕ) where
-  pub adoptable : adoption_answer new old pairs ramp ≡ Accepted → Adoptable new old pairs ramp
+  pub adoptable : adoption_answer new old pairs ramp ≡ Ok tt → Adoptable new old pairs ramp
   unfolding adoption_answer
   adoptable e =
-      let t = (accepted_none (adoption_tests new old pairs ramp) Accepted e).0 in
+      let t = (accepted_none (adoption_tests new old pairs ramp) (Ok tt) e).0 in
       let n = or_none _ _ t.0 in
       let a = or_none (short_nodes new) (short_nodes old) t.1.0 in
       let b = or_none (bad_nodes new) (bad_nodes old) t.1.1.1.0 in
@@ -93,25 +52,25 @@ module _ (new old : Lent) (pairs : List ℕ) (ramp : ℕ) where
         short = ltb-false _ _ t.1.1.1.1.0;
       }
 
-  pub accepted_fit : adoption_answer new old pairs ramp ≡ Accepted → Fit new old ramp
+  pub accepted_fit : adoption_answer new old pairs ramp ≡ Ok tt → Fit new old ramp
   accepted_fit e =
       let a = adoptable e in
       record { new_room = a.new_room; old_room = a.old_room; good = a.new_good; short = a.short }
 
   -- ---- a refused adoption changes nothing
-  pub floats_refused : {r : Refusal} → adoption_answer new old pairs ramp ≡ Refused r → adoption_floats new old pairs ramp ≡ new.floats
+  pub floats_refused : {r : Refusal} → adoption_answer new old pairs ramp ≡ Err r → adoption_floats new old pairs ramp ≡ new.floats
   unfolding adoption_floats
   floats_refused {r} e = refused_keeps (adoption_answer new old pairs ramp) (pairs_adopted old ramp pairs new).floats new.floats r e
 
-  pub words_refused : {r : Refusal} → adoption_answer new old pairs ramp ≡ Refused r → adoption_words new old pairs ramp ≡ new.words
+  pub words_refused : {r : Refusal} → adoption_answer new old pairs ramp ≡ Err r → adoption_words new old pairs ramp ≡ new.words
   unfolding adoption_words
   words_refused {r} e = refused_keeps (adoption_answer new old pairs ramp) (pairs_adopted old ramp pairs new).words new.words r e
 
   -- ---- an accepted one goes through the pairs
-  pub floats_accepted : adoption_answer new old pairs ramp ≡ Accepted → adoption_floats new old pairs ramp ≡ (pairs_adopted old ramp pairs new).floats
+  pub floats_accepted : adoption_answer new old pairs ramp ≡ Ok tt → adoption_floats new old pairs ramp ≡ (pairs_adopted old ramp pairs new).floats
   unfolding adoption_floats
   floats_accepted e = outcome_accepted (adoption_answer new old pairs ramp) (pairs_adopted old ramp pairs new).floats (λ _. new.floats) e
 
-  pub words_accepted : adoption_answer new old pairs ramp ≡ Accepted → adoption_words new old pairs ramp ≡ (pairs_adopted old ramp pairs new).words
+  pub words_accepted : adoption_answer new old pairs ramp ≡ Ok tt → adoption_words new old pairs ramp ≡ (pairs_adopted old ramp pairs new).words
   unfolding adoption_words
   words_accepted e = outcome_accepted (adoption_answer new old pairs ramp) (pairs_adopted old ramp pairs new).words (λ _. new.words) e

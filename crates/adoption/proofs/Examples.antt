@@ -7,13 +7,13 @@ use mathlib.Core.List.{List, [], ◌∷◌, ◌++◌}
 use lib.IntN.{negsuc}
 use lib.ListN.{take}
 use lib.Ieee.{Float, fin, sub, div, of_int}
-use Rattle.refusal.specs.Numbers.{odd_list, bad_node}
 use Rattle.refusal.specs.Tests.{refusal}
-use Rattle.refusal.specs.declared.Answer.TheVariants.{Accepted, Refused}
 use Rattle.node.specs.declared.Node.{Node}
 use Rattle.node.specs.Nodes.{f32, new_node, set_node}
 use Rattle.node.specs.Areas.{node_at, floats_of, words_of, is_bad, some_bad}
 use Rattle.adoption.specs.Adoption.{Lent, lent, adoption_answer, adoption_floats, adoption_words, pair_by, pairs_by}
+use Rattle.refusal.specs.declared.Reason.TheVariants.{BadNode, OddList}
+use Rattle.std.specs.Prelude.{Ok, Err, None}
 
 -- a new plan with one node, 1, that is fading in, and an old one with three: 3; 5 beside 6; 2
 abbrev new : Lent
@@ -35,7 +35,7 @@ abbrev minus_half : Float
 minus_half = fin true 1 (negsuc 0)
 
 -- over 4 samples: from 3 to 1 in steps of -1/2
-pub over_ramp : (adoption_answer new old (0 ∷ 0 ∷ []) 4 ≡ Accepted)
+pub over_ramp : (adoption_answer new old (0 ∷ 0 ∷ []) 4 ≡ Ok tt)
     × (take 1 (after (0 ∷ 0 ∷ []) 4).cur ≡ f32 3 ∷ [])
     × (take 1 (after (0 ∷ 0 ∷ []) 4).target ≡ f32 1 ∷ [])
     × (take 1 (after (0 ∷ 0 ∷ []) 4).step ≡ minus_half ∷ [])
@@ -60,7 +60,7 @@ unfolding adoption_answer adoption_floats adoption_words pairs_by pair_by new_no
 in_order = refl
 
 -- skipped, and accepted: a node of another len; no such new node; no such old node
-pub skips : (adoption_answer new old (0 ∷ 1 ∷ 1 ∷ 0 ∷ 0 ∷ 3 ∷ []) 4 ≡ Accepted)
+pub skips : (adoption_answer new old (0 ∷ 1 ∷ 1 ∷ 0 ∷ 0 ∷ 3 ∷ []) 4 ≡ Ok tt)
     × (adoption_floats new old (0 ∷ 1 ∷ []) 4 ≡ new.floats) × (adoption_words new old (0 ∷ 1 ∷ []) 4 ≡ new.words)
     × (adoption_floats new old (1 ∷ 0 ∷ []) 4 ≡ new.floats) × (adoption_words new old (1 ∷ 0 ∷ []) 4 ≡ new.words)
     × (adoption_floats new old (0 ∷ 3 ∷ []) 4 ≡ new.floats) × (adoption_words new old (0 ∷ 3 ∷ []) 4 ≡ new.words)
@@ -68,7 +68,7 @@ unfolding adoption_answer adoption_floats adoption_words pairs_by pair_by new_no
 skips = (refl, refl, refl, refl, refl, refl, refl)
 
 -- a list of odd length is refused, whatever pairs it starts with
-pub odd : (adoption_answer new old (0 ∷ 0 ∷ 0 ∷ []) 4 ≡ Refused (refusal odd_list 0))
+pub odd : (adoption_answer new old (0 ∷ 0 ∷ 0 ∷ []) 4 ≡ Err (refusal OddList None))
     × (adoption_floats new old (0 ∷ 0 ∷ 0 ∷ []) 4 ≡ new.floats) × (adoption_words new old (0 ∷ 0 ∷ 0 ∷ []) 4 ≡ new.words)
 unfolding adoption_answer adoption_floats adoption_words pairs_by pair_by new_node set_node node_at floats_of words_of is_bad some_bad sub div of_int
 odd = (refl, refl, refl)
@@ -88,7 +88,7 @@ abbrev after_safe : ℕ → Node
 after_safe = node_at (adoption_floats safe_new (safe_old 1) (0 ∷ 0 ∷ 1 ∷ 0 ∷ []) 4) (adoption_words safe_new (safe_old 1) (0 ∷ 0 ∷ 1 ∷ 0 ∷ []) 4)
 
 -- the first pair is skipped, the second goes on, and the old node's safe does not count
-pub safe_skipped : (adoption_answer safe_new (safe_old 1) (0 ∷ 0 ∷ 1 ∷ 0 ∷ []) 4 ≡ Accepted)
+pub safe_skipped : (adoption_answer safe_new (safe_old 1) (0 ∷ 0 ∷ 1 ∷ 0 ∷ []) 4 ≡ Ok tt)
     × (after_safe 0 ≡ new_node 1 (f32 1 ∷ []) 0 1)
     × (take 1 (after_safe 1).cur ≡ f32 3 ∷ [])
     × ((after_safe 1).left ≡ 4)
@@ -97,6 +97,6 @@ unfolding adoption_answer adoption_floats adoption_words pairs_by pair_by new_no
 safe_skipped = (refl, refl, refl, refl, refl)
 
 -- a safe of 2 is refused, of an old node too
-pub safe_refused : adoption_answer safe_new (safe_old 2) (0 ∷ 0 ∷ 1 ∷ 0 ∷ []) 4 ≡ Refused (refusal bad_node 0)
+pub safe_refused : adoption_answer safe_new (safe_old 2) (0 ∷ 0 ∷ 1 ∷ 0 ∷ []) 4 ≡ Err (refusal BadNode None)
 unfolding adoption_answer new_node set_node node_at floats_of words_of is_bad some_bad
 safe_refused = refl

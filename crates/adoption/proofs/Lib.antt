@@ -1,10 +1,10 @@
 -- Laws that belong to no one function.
 
--- which test answers, what an accepted adoption says, and what the call leaves by its answer
+-- what an accepted adoption says, and what the call leaves by its answer
 pub mod Answers
 -- the node that a pair makes
 pub mod Adopted
--- one pair, and the list of pairs from one on
+-- one pair, and a list that holds none
 pub mod Pairs
 -- what the pairs keep
 pub mod Kept

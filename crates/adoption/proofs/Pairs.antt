@@ -1,23 +1,21 @@
--- One pair of an adoption, skipped or not, after which its tests still pass, and the list of pairs from one on. Assumes nothing.
-use mathlib.Core.Path.{◌≡◌, refl, sym, ap, ◌∙◌}
+-- One pair of an adoption, skipped or not, after which its tests still pass, and a list that holds no pair. Assumes nothing.
+use mathlib.Core.Path.{◌≡◌, refl}
 use mathlib.Core.Bool.{Bool, true, false, not, ◌||◌}
 use mathlib.Core.List.{List, [], ◌∷◌}
-use Prim.Native.Nat.{ℕ, suc, ◌+◌, ◌<◌, ◌≤◌}
+use Prim.Native.Nat.{ℕ, ◌+◌, ◌<◌, ◌≤◌}
 use native.Mathlib.Nat.{not-suc-le-zero, le_of_suc-le-suc}
 use native.Mathlib.Omega.{arith}
-use lib.ListN.{length, get_or, drop}
-use lib.Seq.{drop-cons}
+use lib.ListN.{length}
 use lib.Ieee.{Float}
 use lib.Dec.{leb, eqb}
-use borrow.Author.Tests.{le-leb, lt-leb, leb-false, eqb-true, eq-eqb, ne_eqb, not-false}
+use borrow.Author.Tests.{lt-leb, leb-false, eqb-true, eq-eqb, not-false}
 use Rattle.lists.proofs.Bools.{or_none}
-use Rattle.node.specs.declared.Node.{Node}
 use Rattle.node.specs.Nodes.{Full}
-use Rattle.node.specs.Areas.{Room, len_at, safe_at, stored_floats, stored_words, InRange}
+use Rattle.node.specs.Areas.{Room, len_at, safe_at, InRange}
 use Rattle.node.proofs.Kept.{full_load}
 use Rattle.node.proofs.Areas.{length_stored_floats, length_stored_words}
 use Rattle.node.proofs.Bad.{none_bad_at, none_bad_stored}
-use Rattle.adoption.specs.Adoption.{Lent, lent, node_in, unmatched, safe_in, skipped, adopted, adopted_at, stored, pair_adopted, pairs_adopted, pair_by, pairs_by}
+use Rattle.adoption.specs.Adoption.{Lent, lent, node_in, unmatched, safe_in, skipped, adopted_at, stored, pair_adopted, pairs_adopted, pair_by, pairs_by}
 use Rattle.adoption.specs.Fits.{Fit}
 use Rattle.adoption.proofs.Adopted.{adopted_full, adopted_good}
 
@@ -35,19 +33,6 @@ pub record Taken (new old : Lent) (n o : ℕ) : Type 0 where
   pub not_safe : safe_at new.words n ≡ 0
 
 module _ (new old : Lent) (n o : ℕ) where
-  pub skip_new : new.count ≤ n → skipped new old n o ≡ true
-  skip_new h = rw (le-leb new.count n h)
-
-  pub skip_old : n < new.count → old.count ≤ o → skipped new old n o ≡ true
-  skip_old h k = rw (lt-leb new.count n h, le-leb old.count o k)
-
-  pub skip_len : n < new.count → o < old.count → (len_at new.words n ≡ len_at old.words o → ⊥) → skipped new old n o ≡ true
-  skip_len h k e = rw (lt-leb new.count n h, lt-leb old.count o k, ne_eqb (len_at new.words n) (len_at old.words o) e)
-
-  pub skip_safe : n < new.count → o < old.count → len_at new.words n ≡ len_at old.words o → (safe_at new.words n ≡ 0 → ⊥) → skipped new old n o ≡ true
-  skip_safe h k e s =
-      rw (lt-leb new.count n h, lt-leb old.count o k, eq-eqb (len_at new.words n) (len_at old.words o) e, ne_eqb (safe_at new.words n) 0 s)
-
   pub taken_not : Taken new old n o → skipped new old n o ≡ false
   taken_not t =
       rw (
@@ -77,20 +62,6 @@ module _ (new old : Lent) (n o : ℕ) where
     pub pair_taken : Taken new old n o → pair_adopted old ramp n o new ≡ stored new n (adopted_at new old ramp n o)
     unfolding pair_by
     pair_taken t = rw (taken_not t)
-
-    -- the areas that the code leaves where it skips the pair
-    pub areas_skipped : skipped new old n o ≡ true
-        → (new.floats ≡ (pair_adopted old ramp n o new).floats) × (new.words ≡ (pair_adopted old ramp n o new).words)
-    areas_skipped e = let p = sym (pair_skipped e) in (ap (λ (l : Lent). l.floats) p, ap (λ (l : Lent). l.words) p)
-
-    -- and where it stores the pair's node, made from the two that it loaded
-    pub areas_taken : Taken new old n o → {a b node : Node} → a ≡ node_in new n → b ≡ node_in old o
-        → node ≡ adopted a b ramp
-        → (stored_floats new.floats n node ≡ (pair_adopted old ramp n o new).floats) × (stored_words new.words n node ≡ (pair_adopted old ramp n o new).words)
-    areas_taken t p q e =
-        let z : _ ≡ adopted_at new old ramp n o = e ∙ rw (p, q) in
-        let p = ap (stored new n) z ∙ sym (pair_taken t) in
-        (ap (λ (l : Lent). l.floats) p, ap (λ (l : Lent). l.words) p)
 
     -- what holds of the new plan's nodes, and of them with the pair's node stored, holds after the pair
     pub of_pair : (P : Lent → Type 0) → P new → (Taken new old n o → P (stored new n (adopted_at new old ramp n o))) → P (pair_adopted old ramp n o new)
@@ -137,15 +108,3 @@ module _ (old : Lent) (ramp : ℕ) where
   pairs_none [] new h = refl
   pairs_none (n ∷ []) new h = refl
   pairs_none (n ∷ o ∷ pairs) new h = absurd (not-suc-le-zero (le_of_suc-le-suc h))
-
-  pub pairs_more : (pairs : List ℕ) (i : ℕ) (new : Lent) → i + 1 < length pairs
-      → pairs_adopted old ramp (drop i pairs) new ≡ pairs_adopted old ramp (drop (i + 2) pairs) (pair_adopted old ramp (get_or pairs i 0) (get_or pairs (i + 1) 0) new)
-  unfolding pairs_by
-  pairs_more pairs i new h =
-      let a : drop i pairs ≡ get_or pairs i 0 ∷ drop (suc i) pairs = drop-cons pairs i 0 (omega arith) in
-      let b : drop (suc i) pairs ≡ get_or pairs (suc i) 0 ∷ drop (suc (suc i)) pairs = drop-cons pairs (suc i) 0 (omega arith) in
-      let p : suc i ≡ i + 1 = omega arith in
-      let q : suc (suc i) ≡ i + 2 = omega arith in
-      ap (λ (l : List ℕ). pairs_adopted old ramp l new) (a ∙ ap (λ (l : List ℕ). get_or pairs i 0 ∷ l) b)
-      ∙ ap (λ (j : ℕ). pairs_adopted old ramp (drop (suc (suc i)) pairs) (pair_adopted old ramp (get_or pairs i 0) (get_or pairs j 0) new)) p
-      ∙ ap (λ (j : ℕ). pairs_adopted old ramp (drop j pairs) (pair_adopted old ramp (get_or pairs i 0) (get_or pairs (i + 1) 0) new)) q

@@ -5,7 +5,6 @@ use mathlib.Core.Bool.{true}
 use mathlib.Core.List.{List}
 use Prim.Native.Nat.{ℕ, ◌-◌, ◌*◌, ◌<◌}
 use lib.Ieee.{Float}
-use Rattle.refusal.specs.declared.Answer.TheVariants.{Accepted}
 use Rattle.node.specs.Areas.{id_at, left_at}
 use Rattle.run.specs.Run.{admission}
 use Rattle.run.specs.Calls.{Fixed, Changing, Call, given_to, start, after_all, runs, NotSet, steps_of_plan, uses}
@@ -14,6 +13,7 @@ use Rattle.run.proofs.Ramps.{ramp_left}
 use Rattle.adoption.specs.Adoption.{Lent, lent, adoption_answer}
 use Rattle.adoption.proofs.Named.{named}
 use Rattle.adoption.proofs.Adoption.{after, adoption_kept, adoption_good, adoption_left}
+use Rattle.std.specs.Prelude.{Ok}
 
 module _ (f : Fixed) (h : Changing) (old : Lent) (pairs : List ℕ) (ramp : ℕ) where
   -- the plan's nodes, and its areas after it adopted
@@ -36,7 +36,7 @@ module _ (f : Fixed) (h : Changing) (old : Lent) (pairs : List ℕ) (ramp : ℕ)
   adopted_ready r = record { plan = alike_checked f h adopted_areas adopted_alike ∙ r.plan; nodes = adoption_good new old pairs ramp ∙ r.nodes }
 
   -- An adopted node that one step uses: no accepted setting of the list is of its id.
-  pub adopted_ramp : (n : ℕ) → n < f.plan.nodes → uses n (steps_of_plan f) ≡ 1 → adoption_answer new old pairs ramp ≡ Accepted
+  pub adopted_ramp : (n : ℕ) → n < f.plan.nodes → uses n (steps_of_plan f) ≡ 1 → adoption_answer new old pairs ramp ≡ Ok tt
       → named new old n pairs ≡ true → (cs : List Call) → NotSet f (id_at h.words n) adopted_areas cs
       → left_at (after_all f adopted_areas cs).words n ≡ ramp - runs f adopted_areas cs * f.plan.block
   adopted_ramp n inside once e named cs others =

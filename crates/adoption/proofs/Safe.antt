@@ -9,7 +9,6 @@ use native.Mathlib.Omega.{arith}
 use lib.Dec.{eqb}
 use borrow.Author.Tests.{le-leb, eqb-true}
 use Rattle.lists.proofs.Bools.{none_or, or_right}
-use Rattle.refusal.specs.declared.Answer.TheVariants.{Accepted}
 use Rattle.adoption.specs.Adoption.{Lent, node_in, unmatched, safe_in, skipped, pair_by, pairs_by, pair_adopted, pairs_adopted, without_safe, adoption_answer}
 use Rattle.adoption.specs.Fits.{Fit}
 use Rattle.adoption.proofs.Answers.{accepted_fit}
@@ -17,6 +16,7 @@ use Rattle.adoption.proofs.Pairs.{pair_skipped, pair_fit}
 use Rattle.adoption.proofs.Kept.{Kept, kept_self, kept_trans, pair_kept}
 use Rattle.adoption.proofs.Named.{names, named}
 use Rattle.adoption.proofs.Adoption.{after, after_accepted, adoption_unnamed}
+use Rattle.std.specs.Prelude.{Ok}
 
 -- ---- a safe node
 
@@ -86,7 +86,7 @@ module _ (start old : Lent) (ramp : ℕ) where
   pairs_same (n ∷ o ∷ pairs) f k none =
       pairs_same pairs (pair_fit n o f) (kept_trans k (pair_kept n o f)) none ∙ ap (pairs_by unmatched old ramp pairs) (pair_same n o _ k none)
 
-module _ (new old : Lent) (pairs : List ℕ) (ramp : ℕ) (e : adoption_answer new old pairs ramp ≡ Accepted) where
+module _ (new old : Lent) (pairs : List ℕ) (ramp : ℕ) (e : adoption_answer new old pairs ramp ≡ Ok tt) where
   -- an accepted adoption is the Rust's, of the list without the pairs of safe nodes
   pub without_safe_lem : after new old pairs ramp ≡ pairs_by unmatched old ramp (without_safe new pairs) new
   without_safe_lem = after_accepted new old pairs ramp e ∙ pairs_rust new old ramp pairs (accepted_fit new old pairs ramp e) (kept_self new)

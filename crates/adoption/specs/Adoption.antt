@@ -1,16 +1,14 @@
 -- `adopt`, by document 01's section "Adoption" and request C-13: its tests, 5 (nodes, new or old), 2, 11, 14, 10, its answer, and what it writes.
 -- Definitions only.
-use Rattle.std.specs.Prelude.{ℕ, ◌%◌, Bool, not, ◌||◌, cond, List, [], ◌∷◌, ltb, leb, eqb, length, Float}
-use Rattle.refusal.specs.Numbers.{short_area, over_limit, long_ramp, odd_list, bad_node}
-use Rattle.refusal.specs.Tests.{Test, test, first, area_after}
-use Rattle.refusal.specs.declared.Answer.{Answer}
-use Rattle.refusal.specs.declared.Answer.TheVariants.{Accepted}
+use Rattle.std.specs.Prelude.{ℕ, ◌%◌, Bool, not, ◌||◌, cond, List, [], ◌∷◌, ltb, leb, eqb, length, Float, Ok}
+use Rattle.refusal.specs.Tests.{Test, test, first, area_after, Answer}
 use Rattle.node.specs.Sizes.{node_float_count, node_word_count, ramp_too_long}
 use Rattle.node.specs.declared.Node.{Node}
 use Rattle.node.specs.Nodes.{changed, set_node}
 use Rattle.node.specs.Areas.{len_at, safe_at, node_at, stored_floats, stored_words, some_bad}
 use Rattle.plan.specs.Limits.{unit_limits}
 use Rattle.plan.specs.Areas.{shorter}
+use Rattle.refusal.specs.declared.Reason.TheVariants.{BadNode, LongRamp, OddList, OverLimit, ShortArea}
 
 -- the lent nodes of one plan, the new or the old: their count and their areas
 pub record Lent : Type 0 where
@@ -38,15 +36,15 @@ bad_nodes l = some_bad l.words l.count
 
 abbrev pub adoption_tests : Lent → Lent → List ℕ → ℕ → List Test
 adoption_tests new old pairs ramp =
-    test over_limit (over_nodes new || over_nodes old)
-    ∷ test short_area (short_nodes new || short_nodes old)
-    ∷ test odd_list (not (eqb (length pairs % 2) 0))
-    ∷ test bad_node (bad_nodes new || bad_nodes old)
-    ∷ test long_ramp (ramp_too_long ramp)
+    test OverLimit (over_nodes new || over_nodes old)
+    ∷ test ShortArea (short_nodes new || short_nodes old)
+    ∷ test OddList (not (eqb (length pairs % 2) 0))
+    ∷ test BadNode (bad_nodes new || bad_nodes old)
+    ∷ test LongRamp (ramp_too_long ramp)
     ∷ []
 
 unfoldable pub adoption_answer : Lent → Lent → List ℕ → ℕ → Answer
-adoption_answer new old pairs ramp = first (adoption_tests new old pairs ramp) Accepted
+adoption_answer new old pairs ramp = first (adoption_tests new old pairs ramp) (Ok tt)
 
 -- ---- the pairs (new, old) of node indices, in order
 

@@ -2,78 +2,84 @@
 #![tactic(auto)]
 
 ghost use Rattle.std.specs.Prelude.{◌≡◌};
-ghost use Rattle.adoption.specs.Adoption.{lent, short_nodes, adoption_answer, pair_adopted, pairs_adopted, adoption_floats, adoption_words};
-ghost use Rattle.adoption.specs.Fits.{Fit};
+ghost use Rattle.adoption.specs.Adoption.{lent, over_nodes, short_nodes, adoption_answer, pair_adopted, pairs_adopted, adoption_floats, adoption_words};
+ghost use Rattle.adoption.specs.Fits.{lent_by, Fit};
 
 use node::Node;
 use plan::Plan;
-use refusal::{Answer, Refusal};
+use refusal::{Answer, Reason};
 
-// Number 2 of one plan's nodes.
-fn short_nodes(count: usize, floats: &[f32], words: &[u32]) -> bool
-    ensures { result ≡ short_nodes (lent count floats.now words.now) }
-{
-    plan_areas::shorter(floats.len(), count, Node::FLOATS)
-        | plan_areas::shorter(words.len(), count, Node::WORDS)
+// The nodes of one plan, as they are lent: their count and their areas.
+#[derive(Clone, Copy)]
+struct Nodes<'a> {
+    count: usize,
+    floats: &'a [f32],
+    words: &'a [u32],
+}
+
+impl<'a> Nodes<'a> {
+    fn over_limit(self) -> bool
+        ensures { result ≡ over_nodes (lent_by self.entry) }
+    {
+        self.count > Plan::MAX_NODES
+    }
+
+    fn short(self) -> bool
+        ensures { result ≡ short_nodes (lent_by self.entry) }
+    {
+        plan_areas::shorter(self.floats.len(), self.count, Node::FLOATS)
+            | plan_areas::shorter(self.words.len(), self.count, Node::WORDS)
+    }
 }
 
 // The tests, in their order. It writes nothing.
-fn adoption_answer(
-    nodes: usize,
-    node_floats: &[f32],
-    node_words: &[u32],
-    old_nodes: usize,
-    old_floats: &[f32],
-    old_words: &[u32],
-    pairs: &[u32],
-    ramp: u32,
-) -> Answer
-    ensures { result ≡ adoption_answer (lent nodes node_floats.now node_words.now) (lent old_nodes old_floats.now old_words.now) pairs.now ramp }
+#[tactic(auto, unfolding(crate::specs::Adoption::adoption_answer))]
+fn adoption_answer(new: Nodes<'_>, old: Nodes<'_>, pairs: &[u32], ramp: u32) -> Answer
+    ensures { result ≡ adoption_answer (lent_by new.entry) (lent_by old.entry) pairs.now ramp }
 {
-    if (nodes > Plan::MAX_NODES) | (old_nodes > Plan::MAX_NODES) {
-        return Answer::refused(Refusal::OVER_LIMIT);
+    if new.over_limit() | old.over_limit() {
+        return Err(Reason::OverLimit.into());
     }
-    if short_nodes(nodes, node_floats, node_words) | short_nodes(old_nodes, old_floats, old_words) {
-        return Answer::refused(Refusal::SHORT_AREA);
+    if new.short() | old.short() {
+        return Err(Reason::ShortArea.into());
     }
     if pairs.len() % 2 != 0 {
-        return Answer::refused(Refusal::ODD_LIST);
+        return Err(Reason::OddList.into());
     }
-    if node_areas::any_bad(node_words, nodes) | node_areas::any_bad(old_words, old_nodes) {
-        return Answer::refused(Refusal::BAD_NODE);
+    if node_areas::any_bad(new.words, new.count) | node_areas::any_bad(old.words, old.count) {
+        return Err(Reason::BadNode.into());
     }
     if ramp > Node::MAX_RAMP {
-        return Answer::refused(Refusal::LONG_RAMP);
+        return Err(Reason::LongRamp.into());
     }
-    Answer::Accepted
+    Ok(())
 }
 
 // One pair: node n takes the cur of old node o, and its own target is set again. Requires what the tests leave.
+#[tactic(auto, unfolding(crate::specs::Adoption::pair_by, node::specs::Areas::node_at))]
 fn adopt_pair(
     nodes: usize,
     node_floats: &mut [f32],
     node_words: &mut [u32],
-    old_nodes: usize,
-    old_floats: &[f32],
-    old_words: &[u32],
+    lender: Nodes<'_>,
     n: usize,
     o: usize,
     ramp: u32,
 )
-    requires { Fit (lent nodes node_floats.old node_words.old) (lent old_nodes old_floats.now old_words.now) ramp }
-    ensures floats { node_floats.new ≡ (pair_adopted (lent old_nodes old_floats.now old_words.now) ramp n o (lent nodes node_floats.old node_words.old)).floats }
-    ensures words { node_words.new ≡ (pair_adopted (lent old_nodes old_floats.now old_words.now) ramp n o (lent nodes node_floats.old node_words.old)).words }
+    requires { Fit (lent nodes node_floats.old node_words.old) (lent_by lender) ramp }
+    ensures floats { node_floats.new ≡ (pair_adopted (lent_by lender.entry) ramp n o (lent nodes node_floats.old node_words.old)).floats }
+    ensures words { node_words.new ≡ (pair_adopted (lent_by lender.entry) ramp n o (lent nodes node_floats.old node_words.old)).words }
 {
     if n >= nodes {
         return;
     }
-    if o >= old_nodes {
+    if o >= lender.count {
         return;
     }
-    if node_areas::len_of(&node_words[..], n) != node_areas::len_of(old_words, o) {
+    if node_areas::len_of(&node_words[..], n) != node_areas::len_of(lender.words, o) {
         return;
     }
-    let old = node_areas::load(old_floats, old_words, o);
+    let old = node_areas::load(lender.floats, lender.words, o);
     let mut node = node_areas::load(&node_floats[..], &node_words[..], n);
     if node.safe != 0 {
         return;
@@ -89,28 +95,22 @@ fn adopt_pairs(
     nodes: usize,
     node_floats: &mut [f32],
     node_words: &mut [u32],
-    old_nodes: usize,
-    old_floats: &[f32],
-    old_words: &[u32],
+    lender: Nodes<'_>,
     pairs: &[u32],
     ramp: u32,
 )
-    requires { Fit (lent nodes node_floats.old node_words.old) (lent old_nodes old_floats.now old_words.now) ramp }
-    ensures floats { node_floats.new ≡ (pairs_adopted (lent old_nodes old_floats.now old_words.now) ramp pairs.now (lent nodes node_floats.old node_words.old)).floats }
-    ensures words { node_words.new ≡ (pairs_adopted (lent old_nodes old_floats.now old_words.now) ramp pairs.now (lent nodes node_floats.old node_words.old)).words }
+    requires { Fit (lent nodes node_floats.old node_words.old) (lent_by lender) ramp }
+    ensures floats { node_floats.new ≡ (pairs_adopted (lent_by lender.entry) ramp pairs.now (lent nodes node_floats.old node_words.old)).floats }
+    ensures words { node_words.new ≡ (pairs_adopted (lent_by lender.entry) ramp pairs.now (lent nodes node_floats.old node_words.old)).words }
 {
-    for k in 0..pairs.len() / 2 {
-        let n = pairs[2 * k] as usize;
-        let o = pairs[2 * k + 1] as usize;
+    for pair in pairs.chunks_exact(2) {
         adopt_pair(
             nodes,
             node_floats,
             node_words,
-            old_nodes,
-            old_floats,
-            old_words,
-            n,
-            o,
+            lender,
+            pair[0] as usize,
+            pair[1] as usize,
             ramp,
         );
     }
@@ -132,28 +132,17 @@ pub fn adopt(
     ensures floats { node_floats.new ≡ adoption_floats (lent nodes node_floats.old node_words.old) (lent old_nodes old_floats.now old_words.now) pairs.now ramp }
     ensures words { node_words.new ≡ adoption_words (lent nodes node_floats.old node_words.old) (lent old_nodes old_floats.now old_words.now) pairs.now ramp }
 {
-    let answer = adoption_answer(
-        nodes,
-        &node_floats[..],
-        &node_words[..],
-        old_nodes,
-        old_floats,
-        old_words,
-        pairs,
-        ramp,
-    );
-    if let Answer::Refused(r) = answer {
-        return Answer::Refused(r);
-    }
-    adopt_pairs(
-        nodes,
-        node_floats,
-        node_words,
-        old_nodes,
-        old_floats,
-        old_words,
-        pairs,
-        ramp,
-    );
-    Answer::Accepted
+    let new = Nodes {
+        count: nodes,
+        floats: &node_floats[..],
+        words: &node_words[..],
+    };
+    let old = Nodes {
+        count: old_nodes,
+        floats: old_floats,
+        words: old_words,
+    };
+    adoption_answer(new, old, pairs, ramp)?;
+    adopt_pairs(nodes, node_floats, node_words, old, pairs, ramp);
+    Ok(())
 }

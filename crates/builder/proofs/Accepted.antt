@@ -9,9 +9,7 @@ use native.Mathlib.Omega.{arith}
 use lib.ListN.{length}
 use Rattle.lists.specs.Entries.{has}
 use Rattle.lists.proofs.Bools.{or_none, none_or}
-use Rattle.refusal.specs.Tests.{Test, first, outcome, NoneHolds}
-use Rattle.refusal.specs.declared.Answer.{Answer}
-use Rattle.refusal.specs.declared.Answer.TheVariants.{Accepted, Refused}
+use Rattle.refusal.specs.Tests.{Test, first, outcome, NoneHolds, Answer}
 use Rattle.refusal.proofs.Laws.{outcome_accepted, outcome_refused}
 use Rattle.node.specs.Nodes.{new_node}
 use Rattle.node.proofs.Kept.{id_new}
@@ -29,6 +27,7 @@ use Rattle.builder.proofs.Outcomes.{plan_accepted, words_accepted}
 use Rattle.builder.proofs.Refusals.{refused_nothing}
 use Rattle.builder.proofs.Kept.{accepted_kept}
 use Rattle.builder.proofs.Sums.{Splits, limits_sum, past_sum, grown_sum, ids_stored}
+use Rattle.std.specs.Prelude.{Ok, Err}
 
 -- ---- one call
 
@@ -39,7 +38,7 @@ module _ (l : Limits) (s : BuilderState) where
 
   -- a call that gives no id, and is lent the areas that its growth asks for
   without_id : (g : Growth) (lent : Lengths) (own : List Test) → grows_past s.plan g lent ≡ grows_past s.plan g (lengths s)
-      → (first (growth_tests l s.plan g lent own) Accepted ≡ Accepted) ↔ (FitsAsOne l s g [] × NoneHolds own)
+      → (first (growth_tests l s.plan g lent own) (Ok tt) ≡ Ok tt) ↔ (FitsAsOne l s g [] × NoneHolds own)
   without_id g lent own same =
       let x = growth_exactly l s.plan g lent own in (
         λ e. let h = x.0 e in (record { limits = h.0; areas = sym same ∙ h.1.0; new = refl }, h.1.1),
@@ -47,7 +46,7 @@ module _ (l : Limits) (s : BuilderState) where
       )
 
   -- accepted exactly where its growth and its id fit, and it is good in itself
-  pub call_exactly : (c : BuilderCall) → (answer l s c ≡ Accepted) ↔ (FitsAsOne l s (growth_of c) (id_of c) × Good c)
+  pub call_exactly : (c : BuilderCall) → (answer l s c ≡ Ok tt) ↔ (FitsAsOne l s (growth_of c) (id_of c) × Good c)
   unfolding buffers_answer coefficients_answer node_answer step_answer
   call_exactly (buffers n) = without_id (buffers_growth n) (lent_indices (length s.indices)) [] refl
   call_exactly (coefficients xs) = without_id (coefficients_growth (length xs)) (lent_coefficients (length s.coefficients)) [] refl
@@ -61,13 +60,13 @@ module _ (l : Limits) (s : BuilderState) where
       )
   call_exactly (step w) = without_id (step_growth (record_length w)) (lent_steps (length s.steps)) (step_own w) refl
 
-  pub plan_after_lem : (c : BuilderCall) → answer l s c ≡ Accepted → (after l s c).plan ≡ grown s.plan (growth_of c)
+  pub plan_after_lem : (c : BuilderCall) → answer l s c ≡ Ok tt → (after l s c).plan ≡ grown s.plan (growth_of c)
   plan_after_lem (buffers n) e = plan_accepted s.plan (buffers_growth n) e
   plan_after_lem (coefficients xs) e = plan_accepted s.plan (coefficients_growth (length xs)) e
   plan_after_lem (node id xs ramp safe) e = plan_accepted s.plan node_growth e
   plan_after_lem (step w) e = plan_accepted s.plan (step_growth (record_length w)) e
 
-  lengths_after : (c : BuilderCall) → answer l s c ≡ Accepted → lengths (after l s c) ≡ lengths s
+  lengths_after : (c : BuilderCall) → answer l s c ≡ Ok tt → lengths (after l s c) ≡ lengths s
   lengths_after c e =
       let k = accepted_kept l s c e in
       λ i. record {
@@ -79,7 +78,7 @@ module _ (l : Limits) (s : BuilderState) where
       }
 
   -- more ids are new, and differ from its own, exactly where they are new after it
-  ids_after : (c : BuilderCall) (ids : List ℕ) → answer l s c ≡ Accepted
+  ids_after : (c : BuilderCall) (ids : List ℕ) → answer l s c ≡ Ok tt
       → Splits (ids_taken s.words s.plan.nodes (id_of c ++ ids)) (ids_taken s.words s.plan.nodes (id_of c)) (ids_taken (after l s c).words (after l s c).plan.nodes ids)
   unfolding has
   ids_after (buffers n) ids e = rw (plan_accepted s.plan (buffers_growth n) e) (λ h. (refl, h), λ h. h.1)
@@ -103,7 +102,7 @@ module _ (l : Limits) (s : BuilderState) where
   ids_after (step w) ids e = rw (plan_accepted s.plan (step_growth (record_length w)) e) (λ h. (refl, h), λ h. h.1)
 
   -- so of an accepted call: what fits with it fits after it
-  fit_after : (c : BuilderCall) (g : Growth) (ids : List ℕ) → answer l s c ≡ Accepted → FitsAsOne l s (sum (growth_of c) g) (id_of c ++ ids) ↔ FitsAsOne l (after l s c) g ids
+  fit_after : (c : BuilderCall) (g : Growth) (ids : List ℕ) → answer l s c ≡ Ok tt → FitsAsOne l s (sum (growth_of c) g) (id_of c ++ ids) ↔ FitsAsOne l (after l s c) g ids
   fit_after c g ids e =
       let own = ((call_exactly c).0 e).0 in
       let p = plan_after_lem c e in
@@ -144,8 +143,8 @@ really_grown (x ∷ cs) s = go (answer l s c) refl (really_grown cs t)
 
     go : (a : Answer) → answer l s c ≡ a → (built t cs).plan ≡ grown t.plan more
         → (built t cs).plan ≡ grown s.plan (growth_of_all (outcome a (c ∷ accepted t cs) (λ _. accepted t cs)))
-    go Accepted e ih = ih ∙ ap (λ (p : Plan). grown p more) (plan_after_lem l s c e) ∙ grown_sum s.plan (growth_of c) more
-    go (Refused r) e ih = ih ∙ ap (λ (u : BuilderState). grown u.plan more) (refused_nothing l s c r e)
+    go (Ok _) e ih = ih ∙ ap (λ (p : Plan). grown p more) (plan_after_lem l s c e) ∙ grown_sum s.plan (growth_of c) more
+    go (Err r) e ih = ih ∙ ap (λ (u : BuilderState). grown u.plan more) (refused_nothing l s c r e)
 
 -- ---- a list of calls by the same limits
 
@@ -163,7 +162,7 @@ module _ (l : Limits) where
   abbrev accepted_by : BuilderState → List BuilderCall → List BuilderCall
   accepted_by s cs = accepted s (map (asked l) cs)
 
-  taken : (s : BuilderState) (c : BuilderCall) (cs : List BuilderCall) → answer l s c ≡ Accepted → accepted_by s (c ∷ cs) ≡ c ∷ accepted_by (after l s c) cs
+  taken : (s : BuilderState) (c : BuilderCall) (cs : List BuilderCall) → answer l s c ≡ Ok tt → accepted_by s (c ∷ cs) ≡ c ∷ accepted_by (after l s c) cs
   taken s c cs e = outcome_accepted (answer l s c) (c ∷ accepted_by (after l s c) cs) (λ _. accepted_by (after l s c) cs) e
 
   -- all accepted: where the calls fit as one, and each is good in itself
@@ -185,8 +184,8 @@ module _ (l : Limits) where
     where
       go : (a : Answer) → length (accepted_by (after l s c) cs) ≤ length cs
           → length (outcome a (c ∷ accepted_by (after l s c) cs) (λ _. accepted_by (after l s c) cs)) ≤ length (c ∷ cs)
-      go Accepted h = omega arith
-      go (Refused r) h = omega arith
+      go (Ok _) h = omega arith
+      go (Err r) h = omega arith
 
   pub accepted_fit : (cs : List BuilderCall) (s : BuilderState) → accepted s (map (asked l) cs) ≡ cs → FitsAsOne l s (growth_of_all cs) (ids_of cs) × AllGood cs
   accepted_fit [] s q = (record { limits = limits_none; areas = refl; new = refl }, tt)
@@ -200,10 +199,10 @@ module _ (l : Limits) where
 
       go : (a : Answer) → answer l s c ≡ a → (accepted_by t cs ≡ cs → FitsAsOne l t (growth_of_all cs) (ids_of cs) × AllGood cs)
           → FitsAsOne l s (growth_of_all (c ∷ cs)) (ids_of (c ∷ cs)) × AllGood (c ∷ cs)
-      go Accepted e ih =
+      go (Ok _) e ih =
           let rest = ih (tail_same c (accepted_by t cs) cs (sym (taken s c cs e) ∙ q)) in
           ((fit_after l s c (growth_of_all cs) (ids_of cs) e).1 rest.0, (((call_exactly l s c).0 e).1, rest.1))
-      go (Refused r) e ih =
+      go (Err r) e ih =
           let k : accepted_by t cs ≡ c ∷ cs = sym (outcome_refused (answer l s c) (c ∷ accepted_by t cs) (λ _. accepted_by t cs) r e) ∙ q in
           let h : length (accepted_by t cs) ≡ length (c ∷ cs) = ap length k in
           absurd (omega (arith, fewer cs t, h))

@@ -8,9 +8,7 @@ use native.Mathlib.Omega.{arith}
 use lib.ListN.{length, get_or, take, length-append}
 use lib.Seq.{get_or-take, get_or-append-add, take-take, take_at, length-take-le}
 use lib.Ieee.{Float}
-use Rattle.refusal.specs.Numbers.{short_area}
 use Rattle.refusal.specs.Tests.{Test, test, first, NoneHolds}
-use Rattle.refusal.specs.declared.Answer.TheVariants.{Accepted}
 use Rattle.refusal.proofs.Laws.{first_append, none_rest}
 use Rattle.plan.specs.declared.Plan.{Plan}
 use Rattle.plan.specs.declared.Step.{Step}
@@ -24,8 +22,6 @@ use Rattle.plan.proofs.Parts.{tests_of, tests_listed, tests_append}
 use Rattle.plan.proofs.Exact.{accepted_all, accepted_sound}
 use Rattle.plan.proofs.Accepted.{accepted_room}
 use Rattle.plan.proofs.Grown.{Grew, grown_none}
-use Rattle.builder.specs.declared.Change.{Change}
-use Rattle.builder.specs.declared.Change.TheVariants.{Same, Add}
 use Rattle.builder.specs.declared.Growth.{Growth}
 use Rattle.builder.specs.Growth.{count_after, grown}
 use Rattle.builder.specs.Calls.{numbers_from}
@@ -37,10 +33,12 @@ use Rattle.builder.proofs.Accepted.{really_grown}
 use Rattle.builder.proofs.Given.{steps_given, buffers_given, draft_steps, draft_buffers, draft_indices}
 use Rattle.builder.proofs.Tables.{all_tables_kept, accepted_tables, tables_decide}
 use Rattle.builder.proofs.Held.{held, accepted_held}
+use Rattle.refusal.specs.declared.Reason.TheVariants.{ShortArea}
+use Rattle.std.specs.Prelude.{Ok, Some, None, Option}
 
-count_grew : (count : ℕ) (c : Change) → count ≤ count_after count c
-count_grew count Same = omega arith
-count_grew count (Add n) = omega arith
+count_grew : (count : ℕ) (c : Option ℕ) → count ≤ count_after count c
+count_grew count None = omega arith
+count_grew count (Some n) = omega arith
 
 grew : (p : Plan) (g : Growth) → Grew p (grown p g)
 grew p g =
@@ -51,7 +49,7 @@ grew p g =
       nodes = count_grew p.nodes g.nodes;
     }
 
-module _ (s : BuilderState) (area : List Float) (e : check_plan s.plan (areas_with s area) ≡ Accepted) (ended : NoWordsAfter s)
+module _ (s : BuilderState) (area : List Float) (e : check_plan s.plan (areas_with s area) ≡ Ok tt) (ended : NoWordsAfter s)
     (cs : List BuilderCall) (all : accepted s (map (asked unit_limits) cs) ≡ cs) where
   abbrev t : BuilderState
   t = built s (map (asked unit_limits) cs)
@@ -128,8 +126,8 @@ module _ (s : BuilderState) (area : List Float) (e : check_plan s.plan (areas_wi
   abbrev new : List Step
   new = steps_given cs
 
-  steps_decide : first (steps_tests q t.indices (take q.words t.steps) q.steps 0 1) Accepted
-      ≡ first (tests_of q t.indices (1 + p.steps) (length new) new) Accepted
+  steps_decide : first (steps_tests q t.indices (take q.words t.steps) q.steps 0 1) (Ok tt)
+      ≡ first (tests_of q t.indices (1 + p.steps) (length new) new) (Ok tt)
   steps_decide =
       let old = steps_of p s.steps in
       let both : decoded_from (take q.words t.steps) q.steps 0 ≡ old ++ new =
@@ -139,14 +137,14 @@ module _ (s : BuilderState) (area : List Float) (e : check_plan s.plan (areas_wi
       let split : steps_tests q t.indices (take q.words t.steps) q.steps 0 1
       ≡ tests_of q t.indices 1 (length old) old ++ tests_of q t.indices (1 + length old) (length new) new =
       tests_listed q t.indices (take q.words t.steps) q.steps 0 1 ∙ rw (both, count) (tests_append q t.indices old new (length new) 1) in
-      ap (λ (ts : List Test). first ts Accepted) split
-      ∙ first_append (tests_of q t.indices 1 (length old) old) (tests_of q t.indices (1 + length old) (length new) new) Accepted
-      ∙ none_rest (tests_of q t.indices 1 (length old) old) (first (tests_of q t.indices (1 + length old) (length new) new) Accepted) old_none
-      ∙ ap (λ (j : ℕ). first (tests_of q t.indices (1 + j) (length new) new) Accepted) k
+      ap (λ (ts : List Test). first ts (Ok tt)) split
+      ∙ first_append (tests_of q t.indices 1 (length old) old) (tests_of q t.indices (1 + length old) (length new) new) (Ok tt)
+      ∙ none_rest (tests_of q t.indices 1 (length old) old) (first (tests_of q t.indices (1 + length old) (length new) new) (Ok tt)) old_none
+      ∙ ap (λ (j : ℕ). first (tests_of q t.indices (1 + j) (length new) new) (Ok tt)) k
 
   pub added_decide : (buffers : List Float)
       → check_plan q (areas_with t buffers)
-      ≡ first (test short_area (shorter (length buffers) q.buffers q.block) ∷ tests_of q t.indices (1 + p.steps) (length new) new) Accepted
+      ≡ first (test ShortArea (shorter (length buffers) q.buffers q.block) ∷ tests_of q t.indices (1 + p.steps) (length new) new) (Ok tt)
   added_decide buffers =
       tables_decide t buffers (all_tables_kept unit_limits cs s (accepted_tables s area e))
       ∙ rw steps_decide

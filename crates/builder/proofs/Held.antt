@@ -5,7 +5,6 @@ use mathlib.Core.List.{List}
 use lib.ListN.{length, take}
 use lib.Seq.{length-take-le}
 use lib.Ieee.{Float}
-use Rattle.refusal.specs.declared.Answer.TheVariants.{Accepted}
 use Rattle.node.specs.Areas.{nodes}
 use Rattle.node.proofs.Areas.{length_nodes}
 use Rattle.plan.specs.Areas.{short_areas}
@@ -15,6 +14,7 @@ use Rattle.plan.proofs.Accepted.{accepted_room}
 use Rattle.plan.proofs.Exact.{accepted_all}
 use Rattle.builder.specs.Built.{BuilderState, areas_with, Draft, Reads, NoWordsAfter, Drafted}
 use Rattle.builder.proofs.ReadBack.{drafted_steps}
+use Rattle.std.specs.Prelude.{Ok}
 
 abbrev pub held : BuilderState → Draft
 held s =
@@ -28,7 +28,7 @@ held s =
     }
 
 module _ (s : BuilderState) where
-  pub accepted_held : (area : List Float) → check_plan s.plan (areas_with s area) ≡ Accepted → NoWordsAfter s → Drafted s (held s)
+  pub accepted_held : (area : List Float) → check_plan s.plan (areas_with s area) ≡ Ok tt → NoWordsAfter s → Drafted s (held s)
   accepted_held area e ended =
       let p = s.plan in
       let room = accepted_room p (areas_with s area) e in

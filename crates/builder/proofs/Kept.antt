@@ -9,7 +9,6 @@ use lib.ListN.{length, take, replicate, length-replicate}
 use lib.Ieee.{Float}
 use lib.Seq.{sets, length-sets, length-take-le}
 use Rattle.lists.proofs.Stores.{take_sets, drop_sets}
-use Rattle.refusal.specs.declared.Answer.TheVariants.{Accepted}
 use Rattle.node.specs.Sizes.{node_float_count, node_word_count}
 use Rattle.node.specs.Nodes.{new_node}
 use Rattle.node.specs.Nodes.{silence}
@@ -24,6 +23,7 @@ use Rattle.builder.specs.Built.{BuilderCall, buffers, coefficients, node, step, 
 use Rattle.builder.proofs.Numbers.{length_numbers}
 use Rattle.builder.proofs.Fits.{step_fits}
 use Rattle.builder.proofs.Outcomes.{plan_accepted, buffers_accepted, coefficients_accepted, floats_accepted, words_accepted, step_accepted, finish_accepted}
+use Rattle.std.specs.Prelude.{Ok}
 
 untouched : {A : Type 0} (k : ℕ) (l : List A) → KeptPart k k l l
 untouched k l = record { front = refl; rest = refl; length = refl }
@@ -31,7 +31,7 @@ untouched k l = record { front = refl; rest = refl; length = refl }
 stored : {A : Type 0} (k m : ℕ) (l vs : List A) → k + length vs ≤ m → KeptPart k m l (sets l k vs)
 stored k m l vs h = record { front = take_sets k l k vs (le_refl k); rest = drop_sets m l k vs h; length = length-sets l k vs }
 
-pub accepted_kept : (l : Limits) (s : BuilderState) (c : BuilderCall) → answer l s c ≡ Accepted → Kept s (after l s c)
+pub accepted_kept : (l : Limits) (s : BuilderState) (c : BuilderCall) → answer l s c ≡ Ok tt → Kept s (after l s c)
 accepted_kept l s (buffers n) e =
     let p = s.plan in
     rw (plan_accepted p (buffers_growth n) e, buffers_accepted l p n s.indices e)
@@ -80,7 +80,7 @@ accepted_kept l s (step w) e =
     })
 
 -- `finish` changes the buffers alone, and of their area only those that the plan counts
-pub finish_kept : (l : Limits) (p : Plan) (area : List Float) → finish_answer l p (length area) ≡ Accepted
+pub finish_kept : (l : Limits) (p : Plan) (area : List Float) → finish_answer l p (length area) ≡ Ok tt
     → KeptPart 0 (p.buffers * p.block) area (finish_area l p area)
 finish_kept l p area e =
     let n = p.buffers * p.block in

@@ -11,9 +11,7 @@ use lib.ListN.{length, take, length-append}
 use lib.Seq.{sets, length-take-le, take-take}
 use lib.Ieee.{Float}
 use Rattle.lists.proofs.Stores.{take_stored}
-use Rattle.refusal.specs.Tests.{outcome}
-use Rattle.refusal.specs.declared.Answer.{Answer}
-use Rattle.refusal.specs.declared.Answer.TheVariants.{Accepted, Refused}
+use Rattle.refusal.specs.Tests.{outcome, Answer}
 use Rattle.node.specs.Sizes.{node_float_count, node_word_count}
 use Rattle.node.specs.Nodes.{new_node}
 use Rattle.node.specs.Areas.{node_at, nodes, stored_floats, stored_words}
@@ -21,8 +19,6 @@ use Rattle.node.proofs.Kept.{full_new}
 use Rattle.node.proofs.Areas.{stored_same, stored_other, nodes_same}
 use Rattle.plan.specs.declared.Plan.{Plan}
 use Rattle.plan.specs.declared.Step.{Step}
-use Rattle.plan.specs.declared.Read.{Read}
-use Rattle.plan.specs.declared.Read.TheVariants.{Found, Bad}
 use Rattle.plan.specs.declared.Limits.{Limits}
 use Rattle.plan.specs.Words.{fields, read_at, decoded_from, decoded}
 use Rattle.plan.proofs.Words.{read_past, decoded_on, decoded_none, decoded_start}
@@ -35,6 +31,7 @@ use Rattle.builder.proofs.Numbers.{length_numbers}
 use Rattle.builder.proofs.Fits.{buffers_fit, coefficients_fit, node_fits, step_fits}
 use Rattle.builder.proofs.Outcomes.{plan_accepted, buffers_accepted, coefficients_accepted, floats_accepted, words_accepted, step_accepted}
 use Rattle.builder.proofs.Refusals.{refused_nothing}
+use Rattle.std.specs.Prelude.{Ok, Err, Some, None, Option}
 
 -- entries that are stored after the first k of a list, read back
 appended : {A : Type 0} (l vs xs : List A) (k n : ℕ) → k + n ≤ length l → length vs ≡ n → take k l ≡ xs → take (k + n) (sets l k vs) ≡ xs ++ vs
@@ -60,7 +57,7 @@ node_appended n id values ramp safe floats words hf hw =
     ap (λ (k : ℕ). nodes k fs ws) (add-one n) ∙ rw (before, last)
 
 module _ (l : Limits) (s : BuilderState) (d : Draft) (h : Drafted s d) where
-  buffers_drafted : (n : ℕ) → answer l s (buffers n) ≡ Accepted → Drafted (after l s (buffers n)) (given d (buffers n))
+  buffers_drafted : (n : ℕ) → answer l s (buffers n) ≡ Ok tt → Drafted (after l s (buffers n)) (given d (buffers n))
   buffers_drafted n e =
       let p = s.plan in
       let f = buffers_fit l p n (length s.indices) e in
@@ -81,7 +78,7 @@ module _ (l : Limits) (s : BuilderState) (d : Draft) (h : Drafted s d) where
         steps = h.steps;
       })
 
-  coefficients_drafted : (xs : List Float) → answer l s (coefficients xs) ≡ Accepted → Drafted (after l s (coefficients xs)) (given d (coefficients xs))
+  coefficients_drafted : (xs : List Float) → answer l s (coefficients xs) ≡ Ok tt → Drafted (after l s (coefficients xs)) (given d (coefficients xs))
   coefficients_drafted xs e =
       let p = s.plan in
       let f = coefficients_fit l p (length xs) (length s.coefficients) e in
@@ -100,7 +97,7 @@ module _ (l : Limits) (s : BuilderState) (d : Draft) (h : Drafted s d) where
         steps = h.steps;
       })
 
-  node_drafted : (id : ℕ) (xs : List Float) (ramp safe : ℕ) → answer l s (node id xs ramp safe) ≡ Accepted → Drafted (after l s (node id xs ramp safe)) (given d (node id xs ramp safe))
+  node_drafted : (id : ℕ) (xs : List Float) (ramp safe : ℕ) → answer l s (node id xs ramp safe) ≡ Ok tt → Drafted (after l s (node id xs ramp safe)) (given d (node id xs ramp safe))
   node_drafted id xs ramp safe e =
       let p = s.plan in
       let f = node_fits l p id (length xs) ramp safe (length s.floats) s.words e in
@@ -121,7 +118,7 @@ module _ (l : Limits) (s : BuilderState) (d : Draft) (h : Drafted s d) where
 
 -- ---- the steps
 
-record_next : (w : List ℕ) {s : Step} {next : ℕ} → read_at w 0 ≡ Found s next → next ≡ record_length w
+record_next : (w : List ℕ) {s : Step} {next : ℕ} → read_at w 0 ≡ Some (s, next) → next ≡ record_length w
 record_next [] r = let z : ◌≡◌ {A = ℕ} 0 1 = cc (sym (read_past [] 0 (omega arith)) ∙ r) in absurd (omega arith)
 record_next (map ∷ ws) r = read_next (map ∷ ws) 0 r ∙ zero-add (1 + fields map)
 
@@ -130,7 +127,7 @@ module _ (more : List ℕ) where
   reads_append none = none
   reads_append {w} {at} (then r rs) = then (read_append w more at r) (reads_append rs)
 
-reads_one : {w : List ℕ} {at end next : ℕ} {ss : List Step} {s : Step} → Reads w at ss end → read_at w end ≡ Found s next → Reads w at (ss ++ (s ∷ [])) next
+reads_one : {w : List ℕ} {at end next : ℕ} {ss : List Step} {s : Step} → Reads w at ss end → read_at w end ≡ Some (s, next) → Reads w at (ss ++ (s ∷ [])) next
 reads_one none q = then q none
 reads_one (then r rs) q = then r (reads_one rs q)
 
@@ -144,9 +141,9 @@ pub reads_end : {w : List ℕ} {at end : ℕ} {ss : List Step} → Reads w at ss
 reads_end none = refl
 reads_end (then r rs) = rw r (reads_end rs)
 
-module _ (l : Limits) (s : BuilderState) (d : Draft) (h : Drafted s d) (w : List ℕ) (e : answer l s (step w) ≡ Accepted) where
+module _ (l : Limits) (s : BuilderState) (d : Draft) (h : Drafted s d) (w : List ℕ) (e : answer l s (step w) ≡ Ok tt) where
   -- the record that was given is a step, and lies after the words before it
-  step_read_lem : (t : Step) (next : ℕ) → read_at w 0 ≡ Found t next → Drafted (after l s (step w)) (given d (step w))
+  step_read_lem : (t : Step) (next : ℕ) → read_at w 0 ≡ Some (t, next) → Drafted (after l s (step w)) (given d (step w))
   step_read_lem t next r =
       let p = s.plan in
       let n = record_length w in
@@ -154,9 +151,9 @@ module _ (l : Limits) (s : BuilderState) (d : Draft) (h : Drafted s d) (w : List
       let rec = take n w in
       let k : length rec ≡ n = length-take-le n w f.whole in
       let m : next ≡ n = record_next w r in
-      let one : read_at rec 0 ≡ Found t next = read_agree w rec n (sym (take-take n n w (omega arith))) 0 r (omega arith) in
-      let here : read_at (d.words ++ rec) (length d.words) ≡ Found t (length (d.words ++ rec)) =
-      read_seam d.words rec one ∙ ap (Found t) (ap (λ (j : ℕ). length d.words + j) (m ∙ sym k) ∙ sym (length-append d.words rec)) in
+      let one : read_at rec 0 ≡ (Some (t, next)) = read_agree w rec n (sym (take-take n n w (omega arith))) 0 r (omega arith) in
+      let here : read_at (d.words ++ rec) (length d.words) ≡ (Some (t, length (d.words ++ rec))) =
+      read_seam d.words rec one ∙ ap (λ (k : ℕ). Some (t, k)) (ap (λ (j : ℕ). length d.words + j) (m ∙ sym k) ∙ sym (length-append d.words rec)) in
       let given_step : step_read (read_at w 0) ≡ t ∷ [] = ap step_read r in
       rw (plan_accepted p (step_growth n) e, step_accepted l p w s.steps e)
       (record {
@@ -176,13 +173,13 @@ module _ (l : Limits) (s : BuilderState) (d : Draft) (h : Drafted s d) (w : List
   step_drafted : Drafted (after l s (step w)) (given d (step w))
   step_drafted = go (read_at w 0) refl
     where
-      go : (r : Read) → read_at w 0 ≡ r → Drafted (after l s (step w)) (given d (step w))
-      go (Found t next) r = step_read_lem t next r
-      go Bad r = absurd (true≢false (sym (ap unreadable r) ∙ (step_fits l s.plan w (length s.steps) e).readable))
+      go : (r : Option (Step × ℕ)) → read_at w 0 ≡ r → Drafted (after l s (step w)) (given d (step w))
+      go (Some (t, next)) r = step_read_lem t next r
+      go None r = absurd (true≢false (sym (ap unreadable r) ∙ (step_fits l s.plan w (length s.steps) e).readable))
 
 -- ---- lists of calls
 
-pub call_drafted : (l : Limits) (s : BuilderState) (d : Draft) (c : BuilderCall) → Drafted s d → answer l s c ≡ Accepted → Drafted (after l s c) (given d c)
+pub call_drafted : (l : Limits) (s : BuilderState) (d : Draft) (c : BuilderCall) → Drafted s d → answer l s c ≡ Ok tt → Drafted (after l s c) (given d c)
 call_drafted l s d (buffers n) h e = buffers_drafted l s d h n e
 call_drafted l s d (coefficients xs) h e = coefficients_drafted l s d h xs e
 call_drafted l s d (node id xs ramp safe) h e = node_drafted l s d h id xs ramp safe e
@@ -203,8 +200,8 @@ built_drafted (x ∷ cs) s d h = go (answer l s c) refl (built_drafted cs t (giv
 
     go : (a : Answer) → answer l s c ≡ a → (Drafted t (given d c) → Drafted (built t cs) (drafted (given d c) (accepted t cs)))
         → (Drafted t d → Drafted (built t cs) (drafted d (accepted t cs))) → Drafted (built t cs) (drafted d (outcome a (c ∷ accepted t cs) (λ _. accepted t cs)))
-    go Accepted e taken left = taken (call_drafted l s d c h e)
-    go (Refused r) e taken left = left (subst (λ (u : BuilderState). Drafted u d) (sym (refused_nothing l s c r e)) h)
+    go (Ok _) e taken left = taken (call_drafted l s d c h e)
+    go (Err r) e taken left = left (subst (λ (u : BuilderState). Drafted u d) (sym (refused_nothing l s c r e)) h)
 
 -- what `new` leaves holds nothing, in areas of any content and length
 pub empty_drafted : (s : BuilderState) (block : ℕ) → s.plan ≡ empty_plan block → Drafted s no_draft

@@ -24,18 +24,17 @@ use Rattle.plan.specs.declared.Limits.{Limits}
 use Rattle.plan.specs.Areas.{shorter}
 use Rattle.plan.specs.Check.{id_among}
 use Rattle.plan.proofs.Plans.{among_none}
-use Rattle.builder.specs.declared.Change.{Change}
-use Rattle.builder.specs.declared.Change.TheVariants.{Same, Add}
 use Rattle.builder.specs.declared.Growth.{Growth}
 use Rattle.builder.specs.Growth.{Lengths, count_after, grown, tested, grows_over, limit_tests, too_short, grows_past}
 use Rattle.builder.specs.Sums.{plus, sum, ids_taken}
+use Rattle.std.specs.Prelude.{Some, None, Option}
 
 -- ---- growth upon growth
 
-after_sum : (count : ℕ) (a b : Change) → count_after (count_after count a) b ≡ count_after count (plus a b)
-after_sum count Same b = refl
-after_sum count (Add n) Same = refl
-after_sum count (Add n) (Add m) = add_assoc count n m
+after_sum : (count : ℕ) (a b : Option ℕ) → count_after (count_after count a) b ≡ count_after count (plus a b)
+after_sum count None b = refl
+after_sum count (Some n) None = refl
+after_sum count (Some n) (Some m) = add_assoc count n m
 
 pub grown_sum : (p : Plan) (g h : Growth) → grown (grown p g) h ≡ grown p (sum g h)
 grown_sum p g h =
@@ -50,11 +49,11 @@ grown_sum p g h =
 -- ---- the tests of a sum
 
 module _ (bad : ℕ → Bool) (more : (k n : ℕ) → bad (k + n) ≡ false → bad k ≡ false) where
-  tested_sum : (count : ℕ) (a b : Change)
+  tested_sum : (count : ℕ) (a b : Option ℕ)
       → (tested bad count (plus a b) ≡ false) ↔ ((tested bad count a ≡ false) × (tested bad (count_after count a) b ≡ false))
-  tested_sum count Same b = (λ e. (refl, e), λ h. h.1)
-  tested_sum count (Add n) Same = (λ e. (e, refl), λ h. h.0)
-  tested_sum count (Add n) (Add m) =
+  tested_sum count None b = (λ e. (refl, e), λ h. h.1)
+  tested_sum count (Some n) None = (λ e. (e, refl), λ h. h.0)
+  tested_sum count (Some n) (Some m) =
       let q = ap bad (add_assoc count n m) in (
         λ e. (more (count + n) m (q ∙ e), q ∙ e),
         λ h. sym q ∙ h.1,
@@ -102,7 +101,7 @@ module _ (p : Plan) (g h : Growth) where
     λ n. ((over_sum l).1 (n.0.0, n.1.0), tt),
   )
 
-  short_sum : (len each count : ℕ) (a b : Change) → Splits (too_short len count (plus a b) each) (too_short len count a each) (too_short len (count_after count a) b each)
+  short_sum : (len each count : ℕ) (a b : Option ℕ) → Splits (too_short len count (plus a b) each) (too_short len count a each) (too_short len (count_after count a) b each)
   short_sum len each count a b = tested_sum (λ k. shorter len k each) (short_more len each) count a b
 
   pub past_sum : (z : Lengths) → Splits (grows_past p (sum g h) z) (grows_past p g z) (grows_past (grown p g) h z)

@@ -15,10 +15,7 @@ use Rattle.lists.specs.Entries.{some_from}
 use Rattle.lists.proofs.Bools.{none_or, or_none}
 use Rattle.lists.proofs.Entries.{some_none, some_more, entries_none}
 use Rattle.lists.proofs.Stores.{take_stored}
-use Rattle.refusal.specs.Numbers.{short_area}
-use Rattle.refusal.specs.Tests.{test, first}
-use Rattle.refusal.specs.declared.Answer.{Answer}
-use Rattle.refusal.specs.declared.Answer.TheVariants.{Accepted, Refused}
+use Rattle.refusal.specs.Tests.{test, first, Answer}
 use Rattle.node.specs.Sizes.{node_float_count, node_word_count}
 use Rattle.node.specs.Nodes.{new_node}
 use Rattle.node.specs.Areas.{id_at, stored_words}
@@ -41,6 +38,8 @@ use Rattle.builder.proofs.Outcomes.{plan_accepted, buffers_accepted, words_accep
 use Rattle.builder.proofs.Refusals.{refused_nothing}
 use Rattle.builder.proofs.Kept.{accepted_kept}
 use Rattle.builder.proofs.Sums.{id_before}
+use Rattle.refusal.specs.declared.Reason.TheVariants.{ShortArea}
+use Rattle.std.specs.Prelude.{Ok, Err}
 
 -- numbers 1, 5, 2 (but for the buffers' area), 4 (index entries) and 8 are not answered
 pub record Tables (l : Limits) (s : BuilderState) : Type 0 where
@@ -89,7 +88,7 @@ module _ (words : List ℕ) (n id : ℕ) (values : List Float) (ramp safe : ℕ)
 
 -- ---- an accepted call
 module _ (l : Limits) where
-  pub tables_kept : (s : BuilderState) (c : BuilderCall) → answer l s c ≡ Accepted → Tables l s → Tables l (after l s c)
+  pub tables_kept : (s : BuilderState) (c : BuilderCall) → answer l s c ≡ Ok tt → Tables l s → Tables l (after l s c)
   tables_kept s (buffers n) e t =
       let p = s.plan in
       let k = accepted_kept l s (buffers n) e in
@@ -194,8 +193,8 @@ module _ (l : Limits) where
   all_tables_kept (c ∷ cs) s t = all_tables_kept cs (after l s c) (go (answer l s c) refl)
     where
       go : (a : Answer) → answer l s c ≡ a → Tables l (after l s c)
-      go Accepted e = tables_kept s c e t
-      go (Refused r) e = subst (Tables l) (sym (refused_nothing l s c r e)) t
+      go (Ok _) e = tables_kept s c e t
+      go (Err r) e = subst (Tables l) (sym (refused_nothing l s c r e)) t
 
 -- ---- the check: before the steps, the buffers' area alone decides
 module _ (s : BuilderState) (area : List Float) where
@@ -203,7 +202,7 @@ module _ (s : BuilderState) (area : List Float) where
   abbrev lent : Areas
   lent = areas_with s area
 
-  pub accepted_tables : check_plan s.plan lent ≡ Accepted → Tables unit_limits s
+  pub accepted_tables : check_plan s.plan lent ≡ Ok tt → Tables unit_limits s
   accepted_tables e =
       let short = short_areas s.plan lent in
       let sound = accepted_sound s.plan short s.indices s.words s.steps e in
@@ -243,11 +242,11 @@ module _ (s : BuilderState) (area : List Float) where
             })
 
     pub tables_decide : check_plan s.plan lent
-        ≡ first (test short_area short ∷ steps_tests s.plan s.indices (take s.plan.words s.steps) s.plan.steps 0 1) Accepted
+        ≡ first (test ShortArea short ∷ steps_tests s.plan s.indices (take s.plan.words s.steps) s.plan.steps 0 1) (Ok tt)
     tables_decide = ap (λ (b : Bool). checked s.plan b s.indices s.words s.steps) short_buffers ∙ go short
       where
         go : (b : Bool) → checked s.plan b s.indices s.words s.steps
-            ≡ first (test short_area b ∷ steps_tests s.plan s.indices (take s.plan.words s.steps) s.plan.steps 0 1) Accepted
+            ≡ first (test ShortArea b ∷ steps_tests s.plan s.indices (take s.plan.words s.steps) s.plan.steps 0 1) (Ok tt)
         go true = check_2 s.plan true s.indices s.words s.steps t.block ((limits_none unit_limits s.plan).1 t.limits) refl
         go false =
             check_steps s.plan false s.indices s.words s.steps t.block ((limits_none unit_limits s.plan).1 t.limits) refl t.entries t.ids

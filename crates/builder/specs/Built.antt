@@ -1,15 +1,12 @@
 -- Lists of builder calls: what each leaves of a plan and its areas, and the draft, the list of what the accepted calls gave. Definitions only.
-use Rattle.std.specs.Prelude.{ℕ, ◌+◌, ◌*◌, ◌≡◌, List, [], ◌∷◌, ◌++◌, length, take, drop, Float}
-use Rattle.refusal.specs.Tests.{outcome}
-use Rattle.refusal.specs.declared.Answer.{Answer}
+use Rattle.std.specs.Prelude.{ℕ, ◌+◌, ◌*◌, ◌≡◌, List, [], ◌∷◌, ◌++◌, length, take, drop, Float, Some, None, Option}
+use Rattle.refusal.specs.Tests.{outcome, Answer}
 use Rattle.node.specs.declared.Node.{Node}
 use Rattle.node.specs.Sizes.{node_float_count, node_word_count}
 use Rattle.node.specs.Nodes.{new_node}
 use Rattle.node.specs.Areas.{nodes}
 use Rattle.plan.specs.declared.Plan.{Plan}
 use Rattle.plan.specs.declared.Step.{Step}
-use Rattle.plan.specs.declared.Read.{Read}
-use Rattle.plan.specs.declared.Read.TheVariants.{Found, Bad}
 use Rattle.plan.specs.declared.Limits.{Limits}
 use Rattle.plan.specs.Words.{read_at}
 use Rattle.plan.specs.Areas.{Areas, areas}
@@ -137,9 +134,9 @@ abbrev pub no_draft : Draft
 no_draft = record { buffers = 0; indices = []; coefficients = []; nodes = []; steps = []; words = [] }
 
 -- the step that a record of words is
-abbrev pub step_read : Read → List Step
-step_read (Found s next) = s ∷ []
-step_read Bad = []
+abbrev pub step_read : Option (Step × ℕ) → List Step
+step_read (Some (s, next)) = s ∷ []
+step_read None = []
 
 abbrev pub given : Draft → BuilderCall → Draft
 given d (buffers n) =
@@ -179,7 +176,7 @@ drafted d (c ∷ cs) = drafted (given d c) cs
 -- the steps are read one after the other, from one place of the words to another
 pub data Reads (w : List ℕ) : ℕ → List Step → ℕ → Type 0 where
   none : {at : ℕ} → Reads w at [] at
-  then : {at next end : ℕ} {s : Step} {ss : List Step} → read_at w at ≡ Found s next → Reads w next ss end → Reads w at (s ∷ ss) end
+  then : {at next end : ℕ} {s : Step} {ss : List Step} → read_at w at ≡ Some (s, next) → Reads w next ss end → Reads w at (s ∷ ss) end
 
 -- no word that counts lies after the last step: the steps are read one after the other, and end where the words that count do
 abbrev pub NoWordsAfter : BuilderState → Type 0

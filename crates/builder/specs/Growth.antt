@@ -1,20 +1,18 @@
 -- How much a builder call adds to a plan, and the tests 5 and 2 that follow from it. Definitions only.
-use Rattle.std.specs.Prelude.{ℕ, ◌+◌, Bool, false, ◌||◌, List, [], ◌∷◌, ◌++◌, ltb}
-use Rattle.refusal.specs.Numbers.{short_area, over_limit}
+use Rattle.std.specs.Prelude.{ℕ, ◌+◌, Bool, false, ◌||◌, List, [], ◌∷◌, ◌++◌, ltb, Some, None, Option}
 use Rattle.refusal.specs.Tests.{Test, test}
 use Rattle.node.specs.Sizes.{node_float_count, node_word_count}
 use Rattle.plan.specs.declared.Plan.{Plan}
 use Rattle.plan.specs.PlanRecord.{plan_with}
 use Rattle.plan.specs.declared.Limits.{Limits}
 use Rattle.plan.specs.Areas.{shorter}
-use Rattle.builder.specs.declared.Change.{Change}
-use Rattle.builder.specs.declared.Change.TheVariants.{Same, Add}
 use Rattle.builder.specs.declared.Growth.{Growth}
+use Rattle.refusal.specs.declared.Reason.TheVariants.{OverLimit, ShortArea}
 
 -- a count after the call
-abbrev pub count_after : ℕ → Change → ℕ
-count_after count Same = count
-count_after count (Add n) = count + n
+abbrev pub count_after : ℕ → Option ℕ → ℕ
+count_after count None = count
+count_after count (Some n) = count + n
 
 abbrev pub grown : Plan → Growth → Plan
 grown p g =
@@ -22,13 +20,13 @@ grown p g =
     (count_after p.nodes g.nodes) (count_after p.steps g.steps) (count_after p.words g.words)
 
 -- a test of a count, after the call
-abbrev pub tested : (ℕ → Bool) → ℕ → Change → Bool
-tested bad count Same = false
-tested bad count (Add n) = bad (count + n)
+abbrev pub tested : (ℕ → Bool) → ℕ → Option ℕ → Bool
+tested bad count None = false
+tested bad count (Some n) = bad (count + n)
 
 -- ---- number 5: a count above its limit
 
-abbrev pub over : ℕ → ℕ → Change → Bool
+abbrev pub over : ℕ → ℕ → Option ℕ → Bool
 over limit count change = tested (ltb limit) count change
 
 abbrev pub grows_over : Limits → Plan → Growth → Bool
@@ -41,7 +39,7 @@ grows_over l p g =
 
 -- the tests of the limits, in front of a call's others
 abbrev pub limit_tests : Limits → Plan → Growth → List Test
-limit_tests l p g = test over_limit (grows_over l p g) ∷ []
+limit_tests l p g = test OverLimit (grows_over l p g) ∷ []
 
 -- ---- number 2: an area shorter than the call needs. A call is lent the areas of the counts that it adds to, but for the buffers, which
 -- `finish` is lent.
@@ -58,7 +56,7 @@ abbrev pub lengths_of : (indices coefficients floats words steps : ℕ) → Leng
 lengths_of indices coefficients floats words steps =
     record { indices = indices; coefficients = coefficients; node_floats = floats; node_words = words; step_words = steps }
 
-abbrev pub too_short : ℕ → ℕ → Change → ℕ → Bool
+abbrev pub too_short : ℕ → ℕ → Option ℕ → ℕ → Bool
 too_short length count change each = tested (λ k. shorter length k each) count change
 
 abbrev pub grows_past : Plan → Growth → Lengths → Bool
@@ -71,23 +69,23 @@ grows_past p g l =
 
 -- the tests of a call with this growth: 5, 2, and then its own
 abbrev pub growth_tests : Limits → Plan → Growth → Lengths → List Test → List Test
-growth_tests l p g lent own = limit_tests l p g ++ test short_area (grows_past p g lent) ∷ own
+growth_tests l p g lent own = limit_tests l p g ++ test ShortArea (grows_past p g lent) ∷ own
 
 -- ---- the growth of each call
 
 abbrev pub buffers_growth : ℕ → Growth
-buffers_growth n = record { buffers = Add n; indices = Add n; coefficients = Same; nodes = Same; steps = Same; words = Same }
+buffers_growth n = record { buffers = Some n; indices = Some n; coefficients = None; nodes = None; steps = None; words = None }
 
 abbrev pub coefficients_growth : ℕ → Growth
-coefficients_growth n = record { buffers = Same; indices = Same; coefficients = Add n; nodes = Same; steps = Same; words = Same }
+coefficients_growth n = record { buffers = None; indices = None; coefficients = Some n; nodes = None; steps = None; words = None }
 
 abbrev pub node_growth : Growth
-node_growth = record { buffers = Same; indices = Same; coefficients = Same; nodes = Add 1; steps = Same; words = Same }
+node_growth = record { buffers = None; indices = None; coefficients = None; nodes = Some 1; steps = None; words = None }
 
 -- n words
 abbrev pub step_growth : ℕ → Growth
-step_growth n = record { buffers = Same; indices = Same; coefficients = Same; nodes = Same; steps = Add 1; words = Add n }
+step_growth n = record { buffers = None; indices = None; coefficients = None; nodes = None; steps = Some 1; words = Some n }
 
 -- `finish` tests the buffers that there are
 abbrev pub finish_growth : Growth
-finish_growth = record { buffers = Add 0; indices = Same; coefficients = Same; nodes = Same; steps = Same; words = Same }
+finish_growth = record { buffers = Some 0; indices = None; coefficients = None; nodes = None; steps = None; words = None }

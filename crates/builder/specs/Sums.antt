@@ -1,12 +1,10 @@
 -- How much a list of builder calls adds to a plan, and what its calls test as one. Definitions only.
-use Rattle.std.specs.Prelude.{ℕ, ◌+◌, ◌≡◌, Bool, false, ◌||◌, List, [], ◌∷◌, ◌++◌, length}
+use Rattle.std.specs.Prelude.{ℕ, ◌+◌, ◌≡◌, Bool, false, ◌||◌, List, [], ◌∷◌, ◌++◌, length, Some, None, Option}
 use Rattle.lists.specs.Entries.{has}
 use Rattle.refusal.specs.Tests.{NoneHolds}
 use Rattle.node.specs.Sizes.{ramp_too_long, safe_too_high}
 use Rattle.plan.specs.declared.Limits.{Limits}
 use Rattle.plan.specs.Check.{id_among}
-use Rattle.builder.specs.declared.Change.{Change}
-use Rattle.builder.specs.declared.Change.TheVariants.{Same, Add}
 use Rattle.builder.specs.declared.Growth.{Growth}
 use Rattle.builder.specs.Growth.{Lengths, limit_tests, grows_past, buffers_growth, coefficients_growth, node_growth, step_growth}
 use Rattle.builder.specs.Calls.{too_many, record_length, step_own}
@@ -14,10 +12,10 @@ use Rattle.builder.specs.Built.{BuilderCall, buffers, coefficients, node, step, 
 
 -- ---- the growth
 
-abbrev pub plus : Change → Change → Change
-plus Same b = b
-plus (Add n) Same = Add n
-plus (Add n) (Add m) = Add (n + m)
+abbrev pub plus : Option ℕ → Option ℕ → Option ℕ
+plus None b = b
+plus (Some n) None = Some n
+plus (Some n) (Some m) = Some (n + m)
 
 abbrev pub sum : Growth → Growth → Growth
 sum g h =
@@ -31,7 +29,7 @@ sum g h =
     }
 
 abbrev pub no_growth : Growth
-no_growth = record { buffers = Same; indices = Same; coefficients = Same; nodes = Same; steps = Same; words = Same }
+no_growth = record { buffers = None; indices = None; coefficients = None; nodes = None; steps = None; words = None }
 
 abbrev pub growth_of : BuilderCall → Growth
 growth_of (buffers n) = buffers_growth n

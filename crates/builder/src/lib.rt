@@ -2,37 +2,25 @@
 // code here: crates `builder_answers`, `builder_areas` and `builder_calls` have it.
 #![tactic(auto)]
 
-use plan::Span;
-use refusal::Refusal;
-
-// A span that a call made.
-#[derive(Clone, Copy)]
-pub enum SpanAnswer {
-    Made(Span),
-    Refused(Refusal),
-}
-
-// A buffer or a node, by its number.
-#[derive(Clone, Copy)]
-pub enum NumberAnswer {
-    Number(u32),
-    Refused(Refusal),
-}
-
-// A call leaves a count of the plan alone, and then does not test it, or adds to it.
-#[derive(Clone, Copy)]
-pub enum Change {
-    Same,
-    Add(usize),
-}
-
 // What a call adds to each count of the plan.
-#[derive(Clone, Copy)]
+#[derive(Clone, Copy, Debug, PartialEq, Eq)]
 pub struct Growth {
-    pub buffers: Change,
-    pub indices: Change,
-    pub coefficients: Change,
-    pub nodes: Change,
-    pub steps: Change,
-    pub words: Change,
+    pub buffers: Option<usize>,
+    pub indices: Option<usize>,
+    pub coefficients: Option<usize>,
+    pub nodes: Option<usize>,
+    pub steps: Option<usize>,
+    pub words: Option<usize>,
+}
+
+impl Growth {
+    // Of a call that adds nothing.
+    pub const NONE: Growth = Growth {
+        buffers: None,
+        indices: None,
+        coefficients: None,
+        nodes: None,
+        steps: None,
+        words: None,
+    };
 }

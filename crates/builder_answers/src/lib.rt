@@ -13,43 +13,43 @@ use limits::{
     step_growth,
 };
 use node::Node;
-use plan::{Limits, Plan, Read};
-use refusal::{Answer, Refusal};
+use plan::{Limits, Plan};
+use refusal::{Answer, Reason};
 
+#[tactic(auto, unfolding(builder::specs::Calls::new_answer))]
 pub fn new_answer(block: usize) -> Answer
     ensures { result ≡ new_answer block }
 {
     if plan_areas::bad_block(block) {
-        return Answer::refused(Refusal::BLOCK_LENGTH);
+        return Err(Reason::BlockLength.into());
     }
-    Answer::Accepted
+    Ok(())
 }
 
+#[tactic(auto, using(builder::proofs::Uses::buffers_past), unfolding(builder::specs::Calls::buffers_answer))]
 pub fn buffers_answer(limits: Limits, plan: Plan, n: usize, len: usize) -> Answer
     ensures { result ≡ buffers_answer limits plan n len }
 {
-    if let Answer::Refused(r) = limits_answer(limits, plan, buffers_growth(n)) {
-        return Answer::Refused(r);
-    }
+    limits_answer(limits, plan, buffers_growth(n))?;
     if past(len, plan.indices, n) {
-        return Answer::refused(Refusal::SHORT_AREA);
+        return Err(Reason::ShortArea.into());
     }
-    Answer::Accepted
+    Ok(())
 }
 
+#[tactic(auto, using(builder::proofs::Uses::coefficients_past), unfolding(builder::specs::Calls::coefficients_answer))]
 pub fn coefficients_answer(limits: Limits, plan: Plan, n: usize, len: usize) -> Answer
     ensures { result ≡ coefficients_answer limits plan n len }
 {
-    if let Answer::Refused(r) = limits_answer(limits, plan, coefficients_growth(n)) {
-        return Answer::Refused(r);
-    }
+    limits_answer(limits, plan, coefficients_growth(n))?;
     if past(len, plan.coefficients, n) {
-        return Answer::refused(Refusal::SHORT_AREA);
+        return Err(Reason::ShortArea.into());
     }
-    Answer::Accepted
+    Ok(())
 }
 
 // A node of n values, with an area of `floats` floats.
+#[tactic(auto, using(builder::proofs::Uses::node_past), unfolding(builder::specs::Calls::node_answer))]
 pub fn node_answer(
     limits: Limits,
     plan: Plan,
@@ -62,70 +62,65 @@ pub fn node_answer(
 ) -> Answer
     ensures { result ≡ node_answer limits plan id n ramp safe floats words.now }
 {
-    if let Answer::Refused(r) = limits_answer(limits, plan, node_growth()) {
-        return Answer::Refused(r);
-    }
+    limits_answer(limits, plan, node_growth())?;
     let nodes = plan.nodes;
     if plan_areas::shorter(floats, nodes + 1, Node::FLOATS)
         | plan_areas::shorter(words.len(), nodes + 1, Node::WORDS)
     {
-        return Answer::refused(Refusal::SHORT_AREA);
+        return Err(Reason::ShortArea.into());
     }
     if n > Node::MAX {
-        return Answer::refused(Refusal::TOO_MANY_VALUES);
+        return Err(Reason::TooManyValues.into());
     }
     if plan_areas::id_among(words, nodes, id) {
-        return Answer::refused(Refusal::ID_TAKEN);
+        return Err(Reason::IdTaken.into());
     }
     if ramp > Node::MAX_RAMP {
-        return Answer::refused(Refusal::LONG_RAMP);
+        return Err(Reason::LongRamp.into());
     }
     if safe > Node::MAX_SAFE {
-        return Answer::refused(Refusal::BAD_NODE);
+        return Err(Reason::BadNode.into());
     }
-    Answer::Accepted
+    Ok(())
 }
 
 // The words of the record at the front of `words`: its map and its fields, or none where there is no map.
 pub fn record_length(words: &[u32]) -> usize
     ensures { (result ≡ record_length words.now) × (result ≤ 1 + max_fields) }
 {
-    if words.len() == 0 {
-        return 0;
-    }
-    1 + plan_reader::field_count(words[0])
+    words
+        .first()
+        .map_or(0, |map| 1 + plan_reader::field_count(*map))
 }
 
+#[tactic(auto, using(builder::proofs::Uses::step_past), unfolding(builder::specs::Calls::step_answer))]
 pub fn step_answer(limits: Limits, plan: Plan, words: &[u32], len: usize) -> Answer
     ensures { result ≡ step_answer limits plan words.now len }
 {
     let n = record_length(words);
-    if let Answer::Refused(r) = limits_answer(limits, plan, step_growth(n)) {
-        return Answer::Refused(r);
-    }
+    limits_answer(limits, plan, step_growth(n))?;
     if past(len, plan.words, n) {
-        return Answer::refused(Refusal::SHORT_AREA);
+        return Err(Reason::ShortArea.into());
     }
-    let Read::Found(step, _) = plan_reader::read_step(words, 0) else {
-        return Answer::refused(Refusal::UNREADABLE_STEP);
+    let Some((step, _)) = plan_reader::read_step(words, 0) else {
+        return Err(Reason::UnreadableStep.into());
     };
     if plan_steps::step_wide(step) {
-        return Answer::refused(Refusal::TOO_MANY_VALUES);
+        return Err(Reason::TooManyValues.into());
     }
-    Answer::Accepted
+    Ok(())
 }
 
+#[tactic(auto, unfolding(builder::specs::Calls::finish_answer))]
 pub fn finish_answer(limits: Limits, plan: Plan, len: usize) -> Answer
     ensures { result ≡ finish_answer limits plan len }
 {
     if plan_areas::bad_block(plan.block) {
-        return Answer::refused(Refusal::BLOCK_LENGTH);
+        return Err(Reason::BlockLength.into());
     }
-    if let Answer::Refused(r) = limits_answer(limits, plan, finish_growth()) {
-        return Answer::Refused(r);
-    }
+    limits_answer(limits, plan, finish_growth())?;
     if plan_areas::shorter(len, plan.buffers, plan.block) {
-        return Answer::refused(Refusal::SHORT_AREA);
+        return Err(Reason::ShortArea.into());
     }
-    Answer::Accepted
+    Ok(())
 }

@@ -13,8 +13,8 @@ pub fn put_numbers(from: usize, n: usize, at: usize, indices: &mut [u32])
     requires { (from + n ≤ unit_limits.buffers) × (at + n ≤ length indices.old) }
     ensures { indices.new ≡ sets indices.old at (numbers_from from n) }
 {
-    for i in 0..n {
-        indices[at + i] = (from + i) as u32;
+    for (i, place) in indices[at..at + n].iter_mut().enumerate() {
+        *place = (from + i) as u32;
     }
 }
 
@@ -23,9 +23,7 @@ pub fn put_words(words: &[u32], n: usize, at: usize, area: &mut [u32])
     requires { (n ≤ length words.now) × (at + n ≤ length area.old) }
     ensures { area.new ≡ sets area.old at (take n words.now) }
 {
-    for i in 0..n {
-        area[at + i] = words[i];
-    }
+    area[at..at + n].copy_from_slice(&words[..n]);
 }
 
 // Zeros in the first n places. Requires as many.
@@ -33,7 +31,5 @@ pub fn put_zeros(n: usize, area: &mut [f32])
     requires { n ≤ length area.old }
     ensures { area.new ≡ sets area.old 0 (replicate n silence) }
 {
-    for i in 0..n {
-        area[i] = 0.0;
-    }
+    area[..n].fill(0.0);
 }

@@ -2,7 +2,6 @@
 use Rattle.std.proofs.Common.{◌≡◌, true, false, [], ◌∷◌, take, refl}
 use lib.Ieee.{Float, nan, of_bits}
 use Rattle.refusal.specs.Tests.{refusal}
-use Rattle.refusal.specs.declared.Answer.TheVariants as answers
 use Rattle.rounding.specs.Narrow.{narrowed}
 use Rattle.rounding.proofs.Examples as rounding
 use Rattle.node.specs.Nodes.{gain_of}
@@ -17,11 +16,12 @@ use Rattle.plan.specs.Words.{patch_map, gain_map, matrix_map}
 use Rattle.plan.specs.Check.{checked}
 use Rattle.builder.specs.Calls.{new_answer}
 use Rattle.trace.specs.Calls.{sources_answer, sources_area}
-use Rattle.trace.specs.declared.Sources.TheVariants as sources
 use Rattle.setting.specs.Setting.{node_of, setting_floats, setting_words}
 use Rattle.run.specs.Calls.{set}
 use Rattle.cases.specs.Numbers.{over, two_to, half_to, plus_zero, minus_zero, infinity, eighth, quarter, half, three_quarters, one, two, three, five}
 use Rattle.cases.specs.Plans.{mono, stereo, sending, run_over, Writes, node_after, sources_of, list_of, step_checked}
+use Rattle.refusal.specs.declared.Reason.TheVariants.{BlockLength, NoSlot, OutsideTable, TooManyValues}
+use Rattle.std.specs.Prelude.{Ok, Err, Some, None}
 
 -- "1. P New [1], ramp 4, block 2: gains 0.25, 0.5, then 0.75, 1; at rest."
 pub case_1 :
@@ -72,18 +72,18 @@ case_7 = (rounding.case_7_tie_down, rounding.case_7_tie_up, rounding.case_7_to_z
 -- "8. P Patch 3 to buffer 0, Clear 1, Send 0 to 1 with weight 0, Output 1 to slot 2: lists empty, empty, [3]; slot 3 is refused 15."
 pub case_8 :
     let plan = sending 3 plus_zero plus_zero 0 2 in
-    (sources_of plan 0 [] ≡ sources.Listed 0)
-    × (sources_of plan 1 [] ≡ sources.Listed 0)
-    × (sources_of plan 2 (0 ∷ []) ≡ sources.Listed 1)
+    (sources_of plan 0 [] ≡ Ok 0)
+    × (sources_of plan 1 [] ≡ Ok 0)
+    × (sources_of plan 2 (0 ∷ []) ≡ Ok 1)
     × (list_of plan 2 (0 ∷ []) ≡ 3 ∷ [])
-    × (sources_of plan 3 (0 ∷ []) ≡ sources.Refused (refusal 15 0))
+    × (sources_of plan 3 (0 ∷ []) ≡ Err (refusal NoSlot None))
 unfolding Writes sources_answer sources_area sift
 case_8 = (refl, refl, refl, refl, refl)
 
 -- "9. P 5.1 to mono, all gains 0.5, LFE 0: 0.5 0.5 0.5 0 0.25 0.25; normalised 0.25 0.25 0.25 0 0.125 0.125."
 pub case_9 : (a b c d e f : Float) →
     let gains : FoldGains = record { pan_left = half; pan_right = half; mono_sum = half; centre = half; surround = half; lfe = plus_zero } in
-    (width_answer 3 0 gains 6 ≡ answers.Accepted)
+    (width_answer 3 0 gains 6 ≡ Ok tt)
     × (width_area 3 0 gains false (a ∷ b ∷ c ∷ d ∷ e ∷ f ∷ []) ≡ half ∷ half ∷ half ∷ plus_zero ∷ quarter ∷ quarter ∷ [])
     × (width_area 3 0 gains true (a ∷ b ∷ c ∷ d ∷ e ∷ f ∷ []) ≡ quarter ∷ quarter ∷ quarter ∷ plus_zero ∷ eighth ∷ eighth ∷ [])
 unfolding of_bits
@@ -91,18 +91,18 @@ case_9 a b c d e f = (fold.case_9_answer, fold.case_9 a b c d e f, fold.case_9_n
 
 -- "10. P Balance 0.5 of 5.1: 0.5 1 1 1 0.5 1."
 pub case_10 : (a b c d e f : Float) →
-    (balance_answer 3 half 6 ≡ answers.Accepted)
+    (balance_answer 3 half 6 ≡ Ok tt)
     × (balance_area 3 half (a ∷ b ∷ c ∷ d ∷ e ∷ f ∷ []) ≡ half ∷ one ∷ one ∷ one ∷ half ∷ one ∷ [])
 unfolding of_bits
 case_10 a b c d e f = (format.case_10_answer, format.case_10 a b c d e f)
 
 -- "11. Block 1,024 taken, 1,025 refused 1; Matrix 12 by 2 taken, 5 by 5 refused 7; input 255 taken, 256 refused 4."
 pub case_11 :
-    (new_answer 1024 ≡ answers.Accepted)
-    × (new_answer 1025 ≡ answers.Refused (refusal 1 0))
-    × (step_checked (matrix_map ∷ 0 ∷ 0 ∷ 12 ∷ 12 ∷ 2 ∷ []) ≡ answers.Accepted)
-    × (step_checked (matrix_map ∷ 0 ∷ 0 ∷ 5 ∷ 5 ∷ 5 ∷ []) ≡ answers.Refused (refusal 7 1))
-    × (step_checked (patch_map ∷ 255 ∷ 0 ∷ 0 ∷ []) ≡ answers.Accepted)
-    × (step_checked (patch_map ∷ 256 ∷ 0 ∷ 0 ∷ []) ≡ answers.Refused (refusal 4 1))
+    (new_answer 1024 ≡ Ok tt)
+    × (new_answer 1025 ≡ Err (refusal BlockLength None))
+    × (step_checked (matrix_map ∷ 0 ∷ 0 ∷ 12 ∷ 12 ∷ 2 ∷ []) ≡ Ok tt)
+    × (step_checked (matrix_map ∷ 0 ∷ 0 ∷ 5 ∷ 5 ∷ 5 ∷ []) ≡ Err (refusal TooManyValues (Some 1)))
+    × (step_checked (patch_map ∷ 255 ∷ 0 ∷ 0 ∷ []) ≡ Ok tt)
+    × (step_checked (patch_map ∷ 256 ∷ 0 ∷ 0 ∷ []) ≡ Err (refusal OutsideTable (Some 1)))
 unfolding Writes checked
 case_11 = (refl, refl, refl, refl, refl, refl)

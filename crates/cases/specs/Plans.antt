@@ -1,10 +1,8 @@
 -- The plans of document 01's table of cases, each by the builder calls that lay it out, and what is asked of them. Definitions only.
-use Rattle.std.specs.Prelude.{◌≡◌, ℕ, zero, suc, ◌*◌, List, [], ◌∷◌, ◌++◌, map, length, replicate, Float}
+use Rattle.std.specs.Prelude.{◌≡◌, ℕ, zero, suc, ◌*◌, List, [], ◌∷◌, ◌++◌, map, length, replicate, Float, Ok, Result}
 use Rattle.std.specs.Int.Count.{ones, ones_in}
 use Rattle.std.specs.Float.Ieee.{add, sub, mul, div, eq, of_int, of_bits}
 use Rattle.lists.specs.Entries.{some_from, has, meet}
-use Rattle.refusal.specs.declared.Answer.{Answer}
-use Rattle.refusal.specs.declared.Answer.TheVariants.{Accepted}
 use Rattle.node.specs.declared.Node.{Node}
 use Rattle.node.specs.Sizes.{node_float_count, node_word_count}
 use Rattle.node.specs.Nodes.{new_node, set_node, finish_block, gain_of, factor, zero_node}
@@ -20,13 +18,14 @@ use Rattle.builder.specs.Calls.{numbers_from, new_answer, buffers_indices, coeff
 use Rattle.builder.specs.Built.{BuilderCall, buffers, coefficients, node, step}
 use Rattle.insert.specs.Layout.{single}
 use Rattle.trace.specs.Calls.{sources_answer, sources_area}
-use Rattle.trace.specs.declared.Sources.{Sources}
 use Rattle.run.specs.Run.{processed}
 use Rattle.run.specs.Calls.{after_all, run}
 use Rattle.run.specs.Calls.{Call as RunCall}
 use Rattle.theorem.specs.Builds.{Build, after_calls, accepted_calls, fixed, changing}
 use Rattle.theorem.specs.Journal.{Entry, setting, ran, journal}
 use Rattle.cases.specs.Numbers.{plus_zero}
+use Rattle.refusal.specs.Tests.{Answer}
+use Rattle.refusal.specs.declared.Refusal.{Refusal}
 
 -- ---- builds
 
@@ -96,8 +95,8 @@ unfoldable pub Writes : Build → List RunCall → List (List Float) → Type 0
 unfolding ones ones_in add sub mul div eq of_int of_bits new_node set_node finish_block gain_of factor node_at floats_of words_of some_bad is_bad step_of decoded_from decoded some_from id_among id_twice outside_by has meet shares steps_tests new_answer buffers_indices coefficients_area node_floats_area node_words_area step_area finish_area sampled added weighted sent columns weighs processed
 Writes b calls blocks =
     (accepted_calls b ≡ b.calls)
-    × (new_answer b.block ≡ Accepted)
-    × (finish_answer unit_limits (after_calls b).plan (length b.lent.buffers) ≡ Accepted)
+    × (new_answer b.block ≡ Ok tt)
+    × (finish_answer unit_limits (after_calls b).plan (length b.lent.buffers) ≡ Ok tt)
     × (outputs (journal (fixed b) (changing b) calls) ≡ blocks)
 
 -- the node after the calls
@@ -106,7 +105,7 @@ node_after b calls = node_at (after_all (fixed b) (changing b) calls).floats (af
 
 -- ---- the trace, with an area for the list
 
-abbrev pub sources_of : Build → ℕ → List ℕ → Sources
+abbrev pub sources_of : Build → ℕ → List ℕ → Result ℕ Refusal
 sources_of b slot area = sources_answer (fixed b).plan slot (fixed b).indices (changing b).words (fixed b).steps (length area)
 
 abbrev pub list_of : Build → ℕ → List ℕ → List ℕ

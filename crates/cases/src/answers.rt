@@ -1,14 +1,12 @@
 // What came out of a call, on the standard output.
 use crate::floats;
-use refusal::Answer;
+use refusal::Refusal;
 
 // The first n of a list, or all that it has.
 pub fn samples(list: &[f32], n: usize, between: &[u8]) {
-    let mut i = 0;
-    while i < n && i < list.len() {
+    for (i, &x) in list.iter().take(n).enumerate() {
         text::separated(i, between);
-        floats::sample(list[i]);
-        i += 1;
+        floats::sample(x);
     }
 }
 
@@ -22,16 +20,16 @@ pub fn inputs(list: &[u16], n: u32) {
     text::put(b"]");
 }
 
-pub fn answer(a: Answer) {
+pub fn answer<T: Drop>(a: Result<T, Refusal>) {
     match a {
-        Answer::Accepted => text::put(b"taken"),
-        Answer::Refused(r) => text::refused(r),
+        Ok(_) => text::put(b"taken"),
+        Err(r) => text::refused(r),
     }
 }
 
 // Nothing for a call that was accepted.
-pub fn refused(a: Answer) {
-    if let Answer::Refused(r) = a {
+pub fn refused<T: Drop>(a: Result<T, Refusal>) {
+    if let Err(r) = a {
         text::refused(r);
         text::put(b" ");
     }

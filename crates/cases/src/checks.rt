@@ -1,48 +1,35 @@
 // Cases 8 and 11: the lists behind the slots of a plan, and what the plan check takes.
+use crate::plans::Layout;
 use crate::{answers, plans};
 use builder_calls::PlanBuilder;
 use node::Node;
 use plan::Plan;
-use trace::Sources;
 
-fn list(plan: Plan, slot: u32, indices: &[u32], node_words: &[u32], steps: &[u32]) {
+fn list(layout: &Layout, slot: u32) {
     let mut inputs = [0u16; 4];
-    match trace_calls::output_sources(plan, slot, indices, node_words, steps, &mut inputs) {
-        Sources::Listed(n) => answers::inputs(&inputs, n),
-        Sources::Refused(r) => text::refused(r),
+    match layout.sources(slot, &mut inputs) {
+        Ok(n) => answers::inputs(&inputs, n),
+        Err(r) => text::refused(r),
     }
 }
 
-// The lists of slots 0, 1 and 2, and the answer for slot 3.
-fn slots(plan: Plan, indices: &[u32], node_words: &[u32], steps: &[u32]) {
-    list(plan, 0, indices, node_words, steps);
-    text::put(b", ");
-    list(plan, 1, indices, node_words, steps);
-    text::put(b", ");
-    list(plan, 2, indices, node_words, steps);
-    text::put(b"; slot 3 is ");
-    list(plan, 3, indices, node_words, steps);
-}
-
-// Case 8.
+// Case 8: the lists of slots 0, 1 and 2, and the answer for slot 3.
 pub fn traced() {
-    let mut indices = [0u32; 2];
-    let mut coefficients = [0.0f32; 1];
-    let mut node_floats = [0.0f32; Node::FLOATS];
-    let mut node_words = [0u32; Node::WORDS];
-    let mut steps = [0u32; 19];
-    let mut buffers = [0.0f32; 2];
-    let plan = plans::begun(1, 2, &[0.0], &mut indices, &mut coefficients);
-    let plan = plans::with_node(plan, &[0.0], 0, &mut node_floats, &mut node_words);
-    let plan = plans::finished(plan, &plans::SEND, &mut steps, &mut buffers);
-    slots(plan, &indices, &node_words, &steps);
+    let mut layout = Layout::begun(1, 2, &[0.0]);
+    layout.node(&[0.0], 0);
+    layout.finish(&plans::SEND);
+    list(&layout, 0);
+    text::put(b", ");
+    list(&layout, 1);
+    text::put(b", ");
+    list(&layout, 2);
+    text::put(b"; slot 3 is ");
+    list(&layout, 3);
 }
 
 // Case 11: a block.
 pub fn block(n: usize) {
-    let grown = PlanBuilder::new(n);
-    let answer = grown.answer;
-    answers::answer(answer);
+    answers::answer(PlanBuilder::new(n));
 }
 
 // Case 11: the plan check of one step, with 14 buffers and a node of 24 values, in areas that no builder laid out.

@@ -57,32 +57,21 @@ fn ratio(m: u64, f: u64) {
 
 // m / 2^f in lowest terms: a decimal of at most three places, or a whole number and a multiple of a power of two.
 fn lowest(m: u64, f: u64) {
-    if f == 0 {
-        text::whole(m);
-        return;
+    match f {
+        0 => text::whole(m),
+        1 => decimal(m / 2, m % 2 * 5),
+        2 => decimal(m / 4, m % 4 * 25),
+        3 => decimal(m / 8, m % 8 * 125),
+        4..=63 => {
+            let n = m >> f;
+            if n > 0 {
+                text::whole(n);
+                text::put(b" + ");
+            }
+            power(m ^ (n << f), f);
+        }
+        _ => power(m, f),
     }
-    if f == 1 {
-        decimal(m / 2, m % 2 * 5);
-        return;
-    }
-    if f == 2 {
-        decimal(m / 4, m % 4 * 25);
-        return;
-    }
-    if f == 3 {
-        decimal(m / 8, m % 8 * 125);
-        return;
-    }
-    if f > 63 {
-        power(m, f);
-        return;
-    }
-    let n = m >> f;
-    if n > 0 {
-        text::whole(n);
-        text::put(b" + ");
-    }
-    power(m ^ (n << f), f);
 }
 
 fn decimal(n: u64, places: u64) {

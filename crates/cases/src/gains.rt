@@ -13,8 +13,8 @@ pub fn rounded(x: f64) {
 
 fn entries(answer: Answer, list: &[f32]) {
     match answer {
-        Answer::Accepted => answers::samples(list, list.len(), b" "),
-        Answer::Refused(r) => text::refused(r),
+        Ok(()) => answers::samples(list, list.len(), b" "),
+        Err(r) => text::refused(r),
     }
 }
 

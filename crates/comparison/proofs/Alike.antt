@@ -10,6 +10,7 @@ use lib.Dec.{eqb}
 use lib.ListN.{length, take, drop, get_or, drop_of_length-le, length-map}
 use lib.Seq.{drop-cons}
 use borrow.Author.Tests.{eqb-true, eq-eqb, ne_eqb}
+use Rattle.std.specs.Prelude.{Option, None, Some}
 use Rattle.comparison.specs.Lists.{alike, compared}
 
 -- The first i entries of both are alike, so what is left decides.
@@ -54,10 +55,10 @@ module _ {A : Type 0} (f : A → ℕ) (xs : List ℕ) (ys : List A) where
 
 -- ---- what a comparison says
 
-both : (n a b : ℕ) (s t : Bool) → eqb n a ≡ s → eqb n b ≡ t → s && t ≡ true → (n ≡ a) × (n ≡ b)
+both : (n a b : ℕ) (s t : Bool) → eqb n a ≡ s → eqb n b ≡ t → cond (s && t) None (Some n) ≡ None → (n ≡ a) × (n ≡ b)
 both n a b true true p q h = (eqb-true n a p, eqb-true n b q)
-both n a b true false p q h = absurd (true≢false (sym h))
-both n a b false t p q h = absurd (true≢false (sym h))
+both n a b true false p q h = absurd (true≢false (ap (elim [ None ↦ true | Some m ↦ false ]) (sym h)))
+both n a b false t p q h = absurd (true≢false (ap (elim [ None ↦ true | Some m ↦ false ]) (sym h)))
 
 module _ {A : Type 0} (f : A → ℕ) where
   all_alike : (xs : List ℕ) (ys : List A) → alike f xs ys ≡ length xs → alike f xs ys ≡ length ys → xs ≡ map f ys
@@ -89,7 +90,7 @@ module _ {A : Type 0} (f : A → ℕ) where
       go false e rest = refl
 
   -- lists are said to be the same only where they are
-  pub same_equal : (xs : List ℕ) (ys : List A) → (compared f xs ys).same ≡ true → xs ≡ map f ys
+  pub same_equal : (xs : List ℕ) (ys : List A) → compared f xs ys ≡ None → xs ≡ map f ys
   same_equal xs ys h =
       let e = both (alike f xs ys) (length xs) (length ys) (eqb (alike f xs ys) (length xs)) (eqb (alike f xs ys) (length ys)) refl refl h in
       all_alike xs ys e.0 e.1
@@ -100,5 +101,5 @@ module _ {A : Type 0} (f : A → ℕ) where
   map_alike (y ∷ ys) = rw (eq-eqb (f y) (f y) refl) (ap suc (map_alike ys))
 
   -- and wherever they are
-  pub equal_same : (ys : List A) → (compared f (map f ys) ys).same ≡ true
+  pub equal_same : (ys : List A) → compared f (map f ys) ys ≡ None
   equal_same ys = rw (map_alike ys, length-map ys f, eq-eqb (length ys) (length ys) refl)

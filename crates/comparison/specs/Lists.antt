@@ -1,8 +1,7 @@
 -- A list beside the words that it should be, by the word of each of its entries. Definitions only.
-use Rattle.std.specs.Prelude.{ℕ, suc, ◌&&◌, cond, List, [], ◌∷◌, eqb, length, Float}
+use Rattle.std.specs.Prelude.{ℕ, suc, ◌&&◌, cond, List, [], ◌∷◌, eqb, length, Float, Option, None, Some}
 use Rattle.std.specs.Float.{binary32}
 use Rattle.std.specs.Float.Ieee.{to_bits}
-use Rattle.comparison.specs.declared.Comparison.{Comparison}
 
 -- the word of a whole number, and of a sample: its bits, those of every NaN 7FC00000 (hexadecimal)
 abbrev pub word : ℕ → ℕ
@@ -17,9 +16,9 @@ alike f [] ys = 0
 alike f (x ∷ xs) [] = 0
 alike f (x ∷ xs) (y ∷ ys) = cond (eqb x (f y)) (suc (alike f xs ys)) 0
 
--- lists of n and m entries that have their first i alike, and no more
-abbrev pub ending : ℕ → ℕ → ℕ → Comparison
-ending i n m = record { same = eqb i n && eqb i m; place = i }
+-- the place where lists of n and m entries differ that have their first i alike, and no more; none where they end there together
+abbrev pub ending : ℕ → ℕ → ℕ → Option ℕ
+ending i n m = cond (eqb i n && eqb i m) None (Some i)
 
-abbrev pub compared : {A : Type 0} → (A → ℕ) → List ℕ → List A → Comparison
+abbrev pub compared : {A : Type 0} → (A → ℕ) → List ℕ → List A → Option ℕ
 compared f xs ys = ending (alike f xs ys) (length xs) (length ys)

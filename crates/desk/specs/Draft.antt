@@ -1,17 +1,12 @@
 -- A plan while it is laid out by builder calls. Once a call is refused no other is made. Definitions only.
-use Rattle.std.specs.Prelude.{ℕ, Bool, true, false, cond, ltb, get_or, replicate, set}
-use Rattle.refusal.specs.Tests.{outcome}
-use Rattle.refusal.specs.declared.Answer.{Answer}
-use Rattle.refusal.specs.declared.Answer.TheVariants.{Accepted, Refused}
+use Rattle.std.specs.Prelude.{ℕ, Bool, true, false, cond, ltb, get_or, replicate, set, Ok, Err, Result}
+use Rattle.refusal.specs.Tests.{outcome, Answer}
 use Rattle.plan.specs.declared.Plan.{Plan}
 use Rattle.plan.specs.declared.Span.{Span}
 use Rattle.plan.specs.Words.{span}
-use Rattle.builder.specs.declared.SpanAnswer.{SpanAnswer}
-use Rattle.builder.specs.declared.SpanAnswer.TheVariants as spanned
-use Rattle.builder.specs.declared.NumberAnswer.{NumberAnswer}
-use Rattle.builder.specs.declared.NumberAnswer.TheVariants as numbered
 use Rattle.builder.specs.Calls.{new_answer, empty_plan}
 use Rattle.desk.specs.declared.draft.Draft.{Draft}
+use Rattle.refusal.specs.declared.Refusal.{Refusal}
 
 abbrev pub max_lines : ℕ
 max_lines = 16
@@ -38,13 +33,13 @@ with_span d s = record { plan = d.plan; answer = d.answer; span = s; node = d.no
 abbrev pub with_node : Draft → ℕ → Draft
 with_node d n = record { plan = d.plan; answer = d.answer; span = d.span; node = n; lines = d.lines }
 
-abbrev pub span_made : Draft → Plan → SpanAnswer → Draft
-span_made d plan (spanned.Made s) = with_span (answered d plan Accepted) s
-span_made d plan (spanned.Refused r) = answered d plan (Refused r)
+abbrev pub span_made : Draft → Plan → Result Span Refusal → Draft
+span_made d plan (Ok s) = with_span (answered d plan (Ok tt)) s
+span_made d plan (Err r) = answered d plan (Err r)
 
-abbrev pub node_made : Draft → Plan → NumberAnswer → Draft
-node_made d plan (numbered.Number n) = with_node (answered d plan Accepted) n
-node_made d plan (numbered.Refused r) = answered d plan (Refused r)
+abbrev pub node_made : Draft → Plan → Result ℕ Refusal → Draft
+node_made d plan (Ok n) = with_node (answered d plan (Ok tt)) n
+node_made d plan (Err r) = answered d plan (Err r)
 
 -- ---- the buffers of each line, and none of a line that there is not
 

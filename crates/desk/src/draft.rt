@@ -7,11 +7,10 @@ ghost use Rattle.builder.specs.Built.{builder_state};
 ghost use Rattle.insert.specs.Insert.{insert_span, inserted};
 ghost use Rattle.desk.specs.Draft.{begun, refused, made, answered, span_made, node_made, with_span, line_of, with_line};
 
-use builder::{NumberAnswer, SpanAnswer};
-use builder_calls::{Numbered, PlanBuilder, Spanned};
+use builder_calls::PlanBuilder;
 use insert::InsertPoint;
 use plan::{Plan, Span};
-use refusal::Answer;
+use refusal::{Answer, Refusal};
 
 // The lines that a draft has room for. A line is where a strip or a bus ends.
 pub const LINES: usize = 16;
@@ -34,13 +33,11 @@ pub struct Draft {
 pub fn new(block: usize) -> Draft
     ensures { result ≡ begun block }
 {
-    let grown = PlanBuilder::new(block);
-    let plan = grown.plan;
-    let answer = grown.answer;
+    let builder = PlanBuilder::empty(block);
     let span = Span { start: 0, len: 0 };
     Draft {
-        plan,
-        answer,
+        plan: builder.plan,
+        answer: PlanBuilder::new(block).map(|_| ()),
         span,
         node: 0,
         lines: [span; LINES],
@@ -50,53 +47,41 @@ pub fn new(block: usize) -> Draft
 pub fn refused(draft: Draft) -> bool
     ensures { result ≡ refused draft }
 {
-    let answer = draft.answer;
-    match answer {
-        Answer::Accepted => false,
-        Answer::Refused(_) => true,
-    }
+    draft.answer.is_err()
 }
 
 // The draft after a call that answers no more than that.
 fn answered(draft: Draft, plan: Plan, answer: Answer) -> Draft
     ensures { result ≡ answered draft plan answer }
 {
-    let span = draft.span;
-    let lines = draft.lines;
     Draft {
         plan,
         answer,
-        span,
-        node: draft.node,
-        lines,
+        ..draft
     }
 }
 
-fn spanned(draft: Draft, made: Spanned) -> Draft
-    ensures { result ≡ span_made draft made.plan made.answer }
+fn spanned(draft: Draft, plan: Plan, answer: Result<Span, Refusal>) -> Draft
+    ensures { result ≡ span_made draft plan answer }
 {
-    let answer = made.answer;
     match answer {
-        SpanAnswer::Refused(r) => answered(draft, made.plan, Answer::Refused(r)),
-        SpanAnswer::Made(span) => {
-            let mut draft = answered(draft, made.plan, Answer::Accepted);
-            draft.span = span;
-            draft
-        }
+        Err(r) => answered(draft, plan, Err(r)),
+        Ok(span) => Draft {
+            span,
+            ..answered(draft, plan, Ok(()))
+        },
     }
 }
 
-fn numbered(draft: Draft, made: Numbered) -> Draft
-    ensures { result ≡ node_made draft made.plan made.answer }
+fn numbered(draft: Draft, plan: Plan, answer: Result<u32, Refusal>) -> Draft
+    ensures { result ≡ node_made draft plan answer }
 {
-    let answer = made.answer;
     match answer {
-        NumberAnswer::Refused(r) => answered(draft, made.plan, Answer::Refused(r)),
-        NumberAnswer::Number(n) => {
-            let mut draft = answered(draft, made.plan, Answer::Accepted);
-            draft.node = n;
-            draft
-        }
+        Err(r) => answered(draft, plan, Err(r)),
+        Ok(node) => Draft {
+            node,
+            ..answered(draft, plan, Ok(()))
+        },
     }
 }
 
@@ -108,7 +93,9 @@ pub fn buffers(draft: Draft, n: usize, indices: &mut [u32]) -> Draft
     if refused(draft) {
         return draft;
     }
-    spanned(draft, PlanBuilder::buffers(draft.plan, n, indices))
+    let mut builder = PlanBuilder { plan: draft.plan };
+    let answer = builder.buffers(n, indices);
+    spanned(draft, builder.plan, answer)
 }
 
 // The values as coefficients: the draft's span.
@@ -119,7 +106,9 @@ pub fn coefficients(draft: Draft, values: &[f32], area: &mut [f32]) -> Draft
     if refused(draft) {
         return draft;
     }
-    spanned(draft, PlanBuilder::coefficients(draft.plan, values, area))
+    let mut builder = PlanBuilder { plan: draft.plan };
+    let answer = builder.coefficients(values, area);
+    spanned(draft, builder.plan, answer)
 }
 
 // A node that ramps to the values, at 0 at once, and is safe from adoptions or not: the draft's node.
@@ -139,10 +128,9 @@ pub fn node(
     if refused(draft) {
         return draft;
     }
-    numbered(
-        draft,
-        PlanBuilder::node(draft.plan, id, values, ramp, safe, floats, words),
-    )
+    let mut builder = PlanBuilder { plan: draft.plan };
+    let answer = builder.node(id, values, ramp, safe, floats, words);
+    numbered(draft, builder.plan, answer)
 }
 
 // The step of a record: its map, and then its fields.
@@ -153,9 +141,9 @@ pub fn step(draft: Draft, record: &[u32], steps: &mut [u32]) -> Draft
     if refused(draft) {
         return draft;
     }
-    let grown = PlanBuilder::step(draft.plan, record, steps);
-    let answer = grown.answer;
-    answered(draft, grown.plan, answer)
+    let mut builder = PlanBuilder { plan: draft.plan };
+    let answer = builder.step(record, steps);
+    answered(draft, builder.plan, answer)
 }
 
 // An insert, with the ramp that it names: the draft's span is what the strip goes on with.
@@ -178,8 +166,9 @@ pub fn insert(
     if refused(draft) {
         return draft;
     }
-    let made = insert_calls::insert(
-        draft.plan,
+    let mut builder = PlanBuilder { plan: draft.plan };
+    let answer = insert_calls::insert(
+        &mut builder,
         insert,
         indices,
         coefficients,
@@ -187,7 +176,7 @@ pub fn insert(
         words,
         steps,
     );
-    spanned(draft, made)
+    spanned(draft, builder.plan, answer)
 }
 
 // The buffers are zeroed, and the plan is ready to run.
@@ -198,9 +187,8 @@ pub fn finish(draft: Draft, buffers: &mut [f32]) -> Draft
     if refused(draft) {
         return draft;
     }
-    let grown = PlanBuilder::finish(draft.plan, buffers);
-    let answer = grown.answer;
-    answered(draft, grown.plan, answer)
+    let builder = PlanBuilder { plan: draft.plan };
+    answered(draft, draft.plan, builder.finish(buffers))
 }
 
 // The draft, refused where a call was refused that is no builder's.
@@ -238,8 +226,8 @@ pub fn line_of(draft: Draft, line: usize) -> Span
 pub fn from_line(draft: Draft, line: usize) -> Draft
     ensures { result ≡ with_span draft (line_of draft line) }
 {
-    let span = line_of(draft, line);
-    let mut draft = draft;
-    draft.span = span;
-    draft
+    Draft {
+        span: line_of(draft, line),
+        ..draft
+    }
 }

@@ -6,9 +6,8 @@ ghost use Rattle.format_fold.specs.Width.{width_answer as fold_answer, width_are
 ghost use Rattle.desk.specs.Gains.{stereo, width_answer, width_area};
 
 use format::Format;
-use format_balance::Stereo;
 use format_fold::FoldGains;
-use refusal::{Answer, Refusal};
+use refusal::{Answer, Reason};
 
 // 1/√2.
 const HALF_POWER: f64 = 0.7071067811865476;
@@ -21,22 +20,19 @@ pub fn pan(b: f64, out: &mut [f32]) -> Answer
 }
 
 // The width w of a stereo signal, from 0, which is mono, to 2: two rows of two columns.
+#[tactic(auto, unfolding(crate::specs::Gains::width_answer, crate::specs::Gains::width_area))]
 pub fn width(w: f64, out: &mut [f32]) -> Answer
     ensures { (result ≡ width_answer w (length out.old)) × (out.new ≡ width_area w out.old) }
 {
     if out.len() < 4 {
-        return Answer::refused(Refusal::SHORT_AREA);
+        return Err(Reason::ShortArea.into());
     }
-    match format_balance::stereo_matrix(w, 0.0) {
-        Stereo::Refused(r) => Answer::Refused(r),
-        Stereo::Matrix(ll, lr, rl, rr) => {
-            out[0] = rounding::to_f32(ll);
-            out[1] = rounding::to_f32(lr);
-            out[2] = rounding::to_f32(rl);
-            out[3] = rounding::to_f32(rr);
-            Answer::Accepted
-        }
-    }
+    let [ll, lr, rl, rr] = format_balance::stereo_matrix(w, 0.0)?;
+    out[0] = rounding::to_f32(ll);
+    out[1] = rounding::to_f32(lr);
+    out[2] = rounding::to_f32(rl);
+    out[3] = rounding::to_f32(rr);
+    Ok(())
 }
 
 // From one format to another: a row for each channel of dst, a column for each of src. The LFE is dropped where dst has none.

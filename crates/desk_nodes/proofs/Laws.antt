@@ -1,11 +1,9 @@
 -- Digests of nodes, and how many nodes two areas have both. Assumes nothing.
 use Prim.Native.Nat.{ℕ, ◌+◌, ◌-◌, ◌*◌, ◌<◌, ◌≤◌}
-use mathlib.Core.Path.{◌≡◌, sym, ◌∙◌}
-use mathlib.Core.Bool.{cond}
+use mathlib.Core.Path.{◌≡◌}
 use mathlib.Core.List.{List}
 use native.Mathlib.Omega.{arith}
-use borrow.Author.Tests.{eq-eqb, ne_eqb}
-use lib.Dec.{eqb}
+use borrow.Author.Tests.{ne_eqb}
 use lib.ListN.{take, drop}
 use lib.Ieee.{Float}
 use Rattle.node.specs.Sizes.{node_float_count, node_word_count}
@@ -16,10 +14,6 @@ use Rattle.desk_nodes.specs.Nodes.{in_both, with_safe, in_areas}
 -- ---- a digest with node n behind it
 
 module _ (floats : List Float) (words : List ℕ) (n digest : ℕ) where
-  pub safe_not : safe_at words n ≡ 0 → digest ≡ with_safe floats words n digest
-  unfolding with_safe
-  safe_not h = rw (eq-eqb _ _ h)
-
   -- its floats, and behind them its words; a part has as many places as lie between its ends
   pub safe_there : {rows all : ℕ} → (safe_at words n ≡ 0 → ⊥)
       → rows ≡ of_samples digest (take (n * node_float_count + node_float_count - n * node_float_count) (drop (n * node_float_count) floats))
@@ -30,14 +24,6 @@ module _ (floats : List Float) (words : List ℕ) (n digest : ℕ) where
       let e : n * node_float_count + node_float_count - n * node_float_count ≡ node_float_count = omega arith in
       let d : n * node_word_count + node_word_count - n * node_word_count ≡ node_word_count = omega arith in
       rw (ne_eqb _ _ h, r, q, e, d)
-
--- ---- two digests
-
-pub alike : {x y p q : ℕ} → x ≡ p → y ≡ q → x ≡ y → ◌≡◌ {A = ℕ} 1 (cond (eqb p q) 1 0)
-alike {p = p} {q = q} e f h = rw (eq-eqb p q (sym e ∙ h ∙ f))
-
-pub unlike : {x y p q : ℕ} → x ≡ p → y ≡ q → (x ≡ y → ⊥) → ◌≡◌ {A = ℕ} 0 (cond (eqb p q) 1 0)
-unlike {p = p} {q = q} e f h = rw (ne_eqb p q (λ (g : p ≡ q). h (e ∙ g ∙ sym f)))
 
 -- ---- a node that two areas have
 

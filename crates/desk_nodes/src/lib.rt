@@ -17,12 +17,13 @@ use signals::digest;
 const PAIRS: usize = 2 * Plan::MAX_NODES;
 
 // Each node, and the old one of its number.
+#[tactic(auto, unfolding(crate::specs::Nodes::by_number))]
 fn by_number() -> [u32; PAIRS]
     ensures { result ≡ by_number }
 {
     let mut pairs = [0u32; PAIRS];
-    for i in 0..PAIRS {
-        pairs[i] = (i / 2) as u32;
+    for (i, word) in pairs.iter_mut().enumerate() {
+        *word = (i / 2) as u32;
     }
     pairs
 }
@@ -67,13 +68,11 @@ fn same_cur(floats: &[f32], old_floats: &[f32], n: usize) -> usize
     requires { ((n + 1) * node_float_count ≤ length floats.now) × ((n + 1) * node_float_count ≤ length old_floats.now) }
     ensures { (result ≡ same_cur floats.now old_floats.now n) × (result ≤ 1) }
 {
-    if of_cur(floats, n) == of_cur(old_floats, n) {
-        return 1;
-    }
-    0
+    usize::from(of_cur(floats, n) == of_cur(old_floats, n))
 }
 
 // How many of the first `nodes` nodes have the cur of the old one of their number. One that an area does not have is not counted.
+#[tactic(auto, using(crate::proofs::Laws::in_both_lem), unfolding(crate::specs::Nodes::start_alike))]
 pub fn start_alike(nodes: usize, floats: &[f32], old_floats: &[f32]) -> usize
     ensures { result ≡ start_alike floats.now old_floats.now (in_both nodes (length floats.now) (length old_floats.now)) }
 {
@@ -89,6 +88,7 @@ pub fn start_alike(nodes: usize, floats: &[f32], old_floats: &[f32]) -> usize
 }
 
 // The digest with node n behind it, where that is safe. Requires areas that reach past it.
+#[tactic(auto, unfolding(crate::specs::Nodes::with_safe, node::specs::Areas::node_at))]
 fn with_safe(digest: u32, floats: &[f32], words: &[u32], n: usize) -> u32
     requires { Room (n + 1) floats.now words.now }
     ensures { result ≡ with_safe floats.now words.now n digest }
@@ -104,6 +104,7 @@ fn with_safe(digest: u32, floats: &[f32], words: &[u32], n: usize) -> u32
 }
 
 // A digest of those of the first `nodes` nodes that are safe. One that an area does not have is left out.
+#[tactic(auto, using(crate::proofs::Laws::in_areas_lem), unfolding(crate::specs::Nodes::of_safe))]
 pub fn of_safe(nodes: usize, floats: &[f32], words: &[u32]) -> u32
     ensures { result ≡ of_safe floats.now words.now (in_areas nodes (length floats.now) (length words.now)) }
 {

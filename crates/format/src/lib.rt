@@ -1,9 +1,8 @@
 // Channel formats and labels by their numbers. Ports the enums of src/mix/format.rs.
 #![tactic(auto)]
 
-ghost use Rattle.std.specs.Prelude.{◌≡◌, get_or};
-ghost use Rattle.format.specs.Labels.{no_label};
-ghost use Rattle.format.specs.Formats.{channels, label_of, index_of, has};
+ghost use Rattle.std.specs.Prelude.{◌≡◌};
+ghost use Rattle.format.specs.Formats.{labels, channels, label_of, index_of, has};
 
 // The labels: mono, left, right, centre, low-frequency effects, surround, side, rear, top front, top rear.
 pub const M: u32 = 0;
@@ -54,21 +53,10 @@ const SURROUND_514: [u32; 10] = [L, R, C, LFE, LS, RS, LTF, RTF, LTR, RTR];
 
 const SURROUND_714: [u32; 12] = [L, R, C, LFE, LSS, RSS, LRS, RRS, LTF, RTF, LTR, RTR];
 
-const CHANNELS: [usize; 7] = [1, 2, 3, 6, 8, 10, Format::MAX_CHANNELS];
-
 // A format by its number, in the order of the Rust's enum.
 #[derive(Clone, Copy)]
 pub struct Format {
     pub number: u32,
-}
-
-fn label_at(labels: &[u32], channel: usize) -> u32
-    ensures { result ≡ get_or labels.now channel no_label }
-{
-    if channel < labels.len() {
-        return labels[channel];
-    }
-    NO_LABEL
 }
 
 impl Format {
@@ -91,29 +79,36 @@ impl Format {
     // The most channels that a format has.
     pub const MAX_CHANNELS: usize = 12;
 
+    // The labels of a format in channel order: none where there is no such format.
+    pub fn labels(format: u32) -> &'static [u32]
+        ensures { result.now ≡ labels format }
+    {
+        match format {
+            Format::MONO => &MONO,
+            Format::STEREO => &STEREO,
+            Format::LCR => &LCR,
+            Format::SURROUND_51 => &SURROUND_51,
+            Format::SURROUND_71 => &SURROUND_71,
+            Format::SURROUND_514 => &SURROUND_514,
+            Format::SURROUND_714 => &SURROUND_714,
+            _ => &[],
+        }
+    }
+
     // How many channels a format has: none where there is no such format.
     pub fn channels(format: u32) -> usize
         ensures { result ≡ channels format }
     {
-        if Format::COUNT <= format {
-            return 0;
-        }
-        CHANNELS[format as usize]
+        Format::labels(format).len()
     }
 
     // The label of a channel, `NO_LABEL` where the format has no such channel.
     pub fn label(format: u32, channel: usize) -> u32
         ensures { result ≡ label_of format channel }
     {
-        match format {
-            Format::MONO => label_at(&MONO, channel),
-            Format::STEREO => label_at(&STEREO, channel),
-            Format::LCR => label_at(&LCR, channel),
-            Format::SURROUND_51 => label_at(&SURROUND_51, channel),
-            Format::SURROUND_71 => label_at(&SURROUND_71, channel),
-            Format::SURROUND_514 => label_at(&SURROUND_514, channel),
-            Format::SURROUND_714 => label_at(&SURROUND_714, channel),
-            _ => NO_LABEL,
+        match Format::labels(format).get(channel) {
+            Some(label) => *label,
+            None => NO_LABEL,
         }
     }
 
@@ -121,13 +116,9 @@ impl Format {
     pub fn index(format: u32, label: u32) -> usize
         ensures { result ≡ index_of format label }
     {
-        let n = Format::channels(format);
-        for c in 0..n {
-            if Format::label(format, c) == label {
-                return c;
-            }
-        }
-        n
+        let labels = Format::labels(format);
+        let found = labels.iter().position(|known| *known == label);
+        found.unwrap_or(labels.len())
     }
 
     // Whether one of the format's channels has the label.

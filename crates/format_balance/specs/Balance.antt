@@ -1,18 +1,13 @@
 -- Balance and width, in f64 in the Rust's order. A constant is given by its bits. Definitions only.
-use Rattle.std.specs.Prelude.{ℕ, Bool, true, false, not, ◌&&◌, cond, List, [], ◌∷◌, ◌++◌, map, eqb, ltb, length, drop, get_or, Float}
+use Rattle.std.specs.Prelude.{ℕ, Bool, true, false, not, ◌&&◌, cond, List, [], ◌∷◌, ◌++◌, map, eqb, ltb, length, drop, get_or, Float, Ok, Err, Result}
 use Rattle.std.specs.Float.{nan, inf, fin, binary64}
 use Rattle.std.specs.Float.Ieee.{add, sub, mul, div, lt, le}
-use Rattle.refusal.specs.Numbers.{short_area, no_format, out_of_range}
-use Rattle.refusal.specs.Tests.{Test, test, first, outcome, area_after}
-use Rattle.refusal.specs.declared.Answer.{Answer}
-use Rattle.refusal.specs.declared.Answer.TheVariants.{Accepted}
+use Rattle.refusal.specs.Tests.{Test, test, first, outcome, area_after, Answer}
 use Rattle.rounding.specs.Narrow.{narrowed}
 use Rattle.format.specs.Floats.{one64, two64, minus_one64, minus_two64, one32}
 use Rattle.format.specs.Formats.{unknown_format, labels, channels}
-use Rattle.format_balance.specs.declared.Gains.{Gains}
-use Rattle.format_balance.specs.declared.Gains.TheVariants as gains
-use Rattle.format_balance.specs.declared.Stereo.{Stereo}
-use Rattle.format_balance.specs.declared.Stereo.TheVariants as stereo
+use Rattle.refusal.specs.declared.Reason.TheVariants.{NoFormat, OutOfRange, ShortArea}
+use Rattle.refusal.specs.declared.Refusal.{Refusal}
 
 unfoldable pub finite : Float → Bool
 finite nan = false
@@ -39,11 +34,11 @@ abbrev pub bad_balance : Float → Bool
 bad_balance b = not (finite b)
 
 abbrev pub gains_tests : Float → List Test
-gains_tests b = test out_of_range (bad_balance b) ∷ []
+gains_tests b = test OutOfRange (bad_balance b) ∷ []
 
-unfoldable pub balance_gains : Float → Gains
+unfoldable pub balance_gains : Float → Result (Float × Float) Refusal
 unfolding left_gain right_gain finite
-balance_gains b = outcome (first (gains_tests b) Accepted) (gains.Pair (left_gain b) (right_gain b)) gains.Refused
+balance_gains b = outcome (first (gains_tests b) (Ok tt)) (Ok (left_gain b, right_gain b)) Err
 
 -- ---- `balance_of`: 16, 17, 2
 
@@ -70,11 +65,11 @@ balance_of f b = gains_of (narrowed (left_gain b)) (narrowed (right_gain b)) f
 
 -- with an area of n floats
 abbrev pub balance_tests : ℕ → Float → ℕ → List Test
-balance_tests f b n = test no_format (unknown_format f) ∷ test out_of_range (bad_balance b) ∷ test short_area (ltb n (channels f)) ∷ []
+balance_tests f b n = test NoFormat (unknown_format f) ∷ test OutOfRange (bad_balance b) ∷ test ShortArea (ltb n (channels f)) ∷ []
 
 unfoldable pub balance_answer : ℕ → Float → ℕ → Answer
 unfolding finite channels
-balance_answer f b n = first (balance_tests f b n) Accepted
+balance_answer f b n = first (balance_tests f b n) (Ok tt)
 
 -- the area after the call: a gain for each channel, and the rest as it was
 unfoldable pub balance_area : ℕ → Float → List Float → List Float
@@ -93,15 +88,16 @@ unfoldable pub width_in : Float → Bool
 width_in w = le minus_two64 w && le w two64
 
 abbrev pub stereo_tests : Float → Float → List Test
-stereo_tests w b = test out_of_range (not (width_in w)) ∷ test out_of_range (bad_balance b) ∷ []
+stereo_tests w b = test OutOfRange (not (width_in w)) ∷ test OutOfRange (bad_balance b) ∷ []
 
-unfoldable pub stereo_matrix : Float → Float → Stereo
+unfoldable pub stereo_matrix : Float → Float → Result (List Float) Refusal
 unfolding left_gain right_gain finite width_in
 stereo_matrix w b =
-    outcome (first (stereo_tests w b) Accepted)
-    (stereo.Matrix
-    (mul binary64 (left_gain b) (same w))
-    (mul binary64 (left_gain b) (cross w))
-    (mul binary64 (right_gain b) (cross w))
-    (mul binary64 (right_gain b) (same w)))
-    stereo.Refused
+    outcome (first (stereo_tests w b) (Ok tt))
+    (Ok
+    (mul binary64 (left_gain b) (same w)
+    ∷ mul binary64 (left_gain b) (cross w)
+    ∷ mul binary64 (right_gain b) (cross w)
+    ∷ mul binary64 (right_gain b) (same w)
+    ∷ []))
+    Err

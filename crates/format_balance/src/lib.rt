@@ -7,24 +7,10 @@ ghost use Rattle.format_balance.specs.Balance.{side};
 ghost use Rattle.format_balance.specs.Balance.{finite, clamp, at_most_one, left_gain, right_gain, balance_gains, of_side, gains_of, balance_answer, balance_area, width_in, stereo_matrix};
 
 use format::{Format, NO_LABEL};
-use refusal::{Answer, Refusal};
+use refusal::{Answer, Reason, Refusal};
 
 // The side of each label: 1 left, 2 right, 0 neither. LFE is on no side.
 const SIDE: [u32; 15] = [0, 1, 2, 0, 0, 1, 2, 1, 2, 1, 2, 1, 2, 1, 2];
-
-// The answer of `balance_gains`: the gain of the left channels, and that of the right.
-#[derive(Clone, Copy)]
-pub enum Gains {
-    Pair(f64, f64),
-    Refused(Refusal),
-}
-
-// The answer of `stereo_matrix`: L from L, L from R, R from L, R from R.
-#[derive(Clone, Copy)]
-pub enum Stereo {
-    Matrix(f64, f64, f64, f64),
-    Refused(Refusal),
-}
 
 // 1 for a left label, 2 for a right one, 0 for any other.
 fn side(label: u32) -> u32
@@ -77,15 +63,15 @@ fn right_gain(b: f64) -> f64
 }
 
 // The gains of the left and of the right channels at the balance b: -1 left only, 0 both, 1 right only.
-pub fn balance_gains(b: f64) -> Gains
+pub fn balance_gains(b: f64) -> Result<(f64, f64), Refusal>
     ensures { result ≡ balance_gains b }
 {
     if !finite(b) {
-        return Gains::Refused(Refusal::of(Refusal::OUT_OF_RANGE));
+        return Err(Reason::OutOfRange.into());
     }
     let gl = left_gain(b);
     let gr = right_gain(b);
-    Gains::Pair(gl, gr)
+    Ok((gl, gr))
 }
 
 fn of_side(l: f32, r: f32, side: u32) -> f32
@@ -100,13 +86,13 @@ fn of_side(l: f32, r: f32, side: u32) -> f32
     1.0
 }
 
-// A gain for each of the format's n channels, by its side. Requires that n is their count, and room for them.
-fn put_gains(format: u32, left: f32, right: f32, n: usize, out: &mut [f32])
-    requires { (n ≡ channels format) × (n ≤ length out.old) }
-    ensures { out.new ≡ gains_of left right format ++ drop n out.old }
+// A gain for each of the format's channels, by its side. Requires room for them.
+fn put_gains(format: u32, left: f32, right: f32, out: &mut [f32])
+    requires { channels format ≤ length out.old }
+    ensures { out.new ≡ gains_of left right format ++ drop (channels format) out.old }
 {
-    for c in 0..n {
-        out[c] = of_side(left, right, side(Format::label(format, c)));
+    for (c, label) in Format::labels(format).iter().enumerate() {
+        out[c] = of_side(left, right, side(*label));
     }
 }
 
@@ -115,19 +101,18 @@ pub fn balance_of(format: u32, b: f64, out: &mut [f32]) -> Answer
     ensures { (result ≡ balance_answer format b (length out.old)) × (out.new ≡ balance_area format b out.old) }
 {
     if Format::COUNT <= format {
-        return Answer::refused(Refusal::NO_FORMAT);
+        return Err(Reason::NoFormat.into());
     }
     if !finite(b) {
-        return Answer::refused(Refusal::OUT_OF_RANGE);
+        return Err(Reason::OutOfRange.into());
     }
-    let n = Format::channels(format);
-    if out.len() < n {
-        return Answer::refused(Refusal::SHORT_AREA);
+    if out.len() < Format::channels(format) {
+        return Err(Reason::ShortArea.into());
     }
     let left = rounding::to_f32(left_gain(b));
     let right = rounding::to_f32(right_gain(b));
-    put_gains(format, left, right, n, out);
-    Answer::Accepted
+    put_gains(format, left, right, out);
+    Ok(())
 }
 
 // From -2 to 2.
@@ -141,18 +126,18 @@ fn width_in(w: f64) -> bool
 }
 
 // The stereo width w (0 mono, 1 unchanged, 2 twice the side signal), then the balance b.
-pub fn stereo_matrix(w: f64, b: f64) -> Stereo
+pub fn stereo_matrix(w: f64, b: f64) -> Result<[f64; 4], Refusal>
     ensures { result ≡ stereo_matrix w b }
 {
     if !width_in(w) {
-        return Stereo::Refused(Refusal::of(Refusal::OUT_OF_RANGE));
+        return Err(Reason::OutOfRange.into());
     }
     if !finite(b) {
-        return Stereo::Refused(Refusal::of(Refusal::OUT_OF_RANGE));
+        return Err(Reason::OutOfRange.into());
     }
     let gl = left_gain(b);
     let gr = right_gain(b);
     let same = (1.0 + w) / 2.0;
     let cross = (1.0 - w) / 2.0;
-    Stereo::Matrix(gl * same, gl * cross, gr * cross, gr * same)
+    Ok([gl * same, gl * cross, gr * cross, gr * same])
 }

@@ -5,12 +5,13 @@ use mathlib.Core.Bool.{true, false}
 use mathlib.Core.List.{[], ◌∷◌}
 use lib.Ieee.{Float, nan, binary32, binary64, round, add, mul, div, neg, lt, eq, le, of_bits, is_nan, to_bits}
 use Rattle.refusal.specs.Tests.{refusal}
-use Rattle.refusal.specs.declared.Answer.TheVariants.{Accepted, Refused}
 use Rattle.rounding.specs.Narrow.{pattern, narrowed_bits, narrowed}
 use Rattle.format.specs.Formats.{labels, channels, index_of, has}
 use Rattle.format_fold.specs.declared.FoldGains.{FoldGains}
 use Rattle.format_fold.specs.Folds.{negative, gain_in_range, gains_in_range, folds_to, folded, matrix_of}
 use Rattle.format_fold.specs.Width.{absolute, larger, normalised, entries_of, width_answer, width_area}
+use Rattle.refusal.specs.declared.Reason.TheVariants.{NoFormat, OutOfRange, ShortArea}
+use Rattle.std.specs.Prelude.{Ok, Err, None}
 
 -- the gain x for all, and none for LFE
 abbrev all : Float → FoldGains
@@ -33,7 +34,7 @@ abbrev half : Float
 half = of_bits binary32 0x3f00_0000
 
 -- 9. 5.1 to mono, all gains 0.5, LFE 0, into any area of six: 0.5 0.5 0.5 0 0.25 0.25; normalised 0.25 0.25 0.25 0 0.125 0.125
-pub case_9_answer : width_answer 3 0 (all half64) 6 ≡ Accepted
+pub case_9_answer : width_answer 3 0 (all half64) 6 ≡ Ok tt
 unfolding width_answer gains_in_range gain_in_range negative channels labels le lt eq of_bits
 case_9_answer = refl
 
@@ -66,14 +67,14 @@ sixteen_taken = refl
 
 -- ---- the first fault answers: a format above 6, then a gain out of range, then a short area
 
-pub first_16 : width_answer 3 7 (all nan) 0 ≡ Refused (refusal 16 0)
+pub first_16 : width_answer 3 7 (all nan) 0 ≡ Err (refusal NoFormat None)
 unfolding width_answer gains_in_range gain_in_range negative channels labels le lt eq of_bits
 first_16 = refl
 
-pub first_17 : width_answer 3 0 (all nan) 0 ≡ Refused (refusal 17 0)
+pub first_17 : width_answer 3 0 (all nan) 0 ≡ Err (refusal OutOfRange None)
 unfolding width_answer gains_in_range gain_in_range negative channels labels le lt eq of_bits
 first_17 = refl
 
-pub first_2 : width_answer 3 0 (all half64) 5 ≡ Refused (refusal 2 0)
+pub first_2 : width_answer 3 0 (all half64) 5 ≡ Err (refusal ShortArea None)
 unfolding width_answer gains_in_range gain_in_range negative channels labels le lt eq of_bits
 first_2 = refl

@@ -1,19 +1,17 @@
 -- One turn of each loop over the matrix, as the definitions have it. Assumes nothing.
-use mathlib.Core.Path.{◌≡◌, sym, ap, ◌∙◌}
-use mathlib.Core.List.{List}
-use Prim.Native.Nat.{ℕ, suc, ◌+◌, ◌-◌, ◌*◌, ◌<◌, ◌≤◌}
-use native.Mathlib.Nat.{suc-mul, mul-le-mul}
-use native.Mathlib.Numerals.{add-one}
+use mathlib.Core.Path.{◌≡◌, refl, sym, ap, ◌∙◌}
+use mathlib.Core.List.{List, ◌++◌}
+use Prim.Native.Nat.{ℕ, zero, suc, ◌+◌, ◌*◌, ◌<◌, ◌≤◌}
+use native.Mathlib.Nat.{suc-mul, zero-mul, mul-le-mul}
 use native.Mathlib.Omega.{arith}
-use lib.ListN.{length, get_or, take, drop, length-drop, drop_of_length-le}
-use lib.Seq.{length-take-le, drop-cons, get_or-take, get_or-drop, drop-drop}
-use lib.Ieee.{Float, nan, binary64, add}
+use lib.ListN.{length, take, drop, length-append}
+use lib.Seq.{length-take-le, take-take, take_at, drop_at}
+use lib.Ieee.{Float}
 use Rattle.format.specs.Formats.{channels}
-use Rattle.format.specs.Floats.{zero64, one64}
+use Rattle.lists.proofs.Stores.{part_swap}
+use Rattle.format.specs.Floats.{zero64}
 use Rattle.format.proofs.Labels.{channels_le}
-use Rattle.format_fold.specs.declared.FoldGains.{FoldGains}
-use Rattle.format_fold.specs.Folds.{folded, depth, folded_each}
-use Rattle.format_fold.specs.Width.{absolute, row_sum, larger, largest}
+use Rattle.format_fold.specs.Width.{row_sum, larger, largest}
 
 -- ---- 12 by 12 places
 
@@ -34,39 +32,56 @@ row_fits i n k hi hn hk = let h : suc i ≤ 12 = omega arith in omega (arith, pl
 pub cell : (i n s k : ℕ) → i < n → n ≤ 12 → s < k → k ≤ 12 → i * k + s < 144
 cell i n s k hi hn hs hk = omega (arith, row_fits i n k hi hn hk)
 
--- ---- the columns
-
-pub each_more : (g : FoldGains) (d k s : ℕ) (ls : List ℕ) (m : List Float) → s < length ls → folded_each g d k s (drop s ls) m ≡ folded_each g d k (s + 1) (drop (s + 1) ls) (folded depth g d k s (get_or ls s 15) one64 m)
-each_more g d k s ls m h =
-    ap (λ (l : List ℕ). folded_each g d k s l m) (drop-cons ls s 15 h)
-    ∙ ap (λ (n : ℕ). folded_each g d k n (drop n ls) (folded depth g d k s (get_or ls s 15) one64 m)) (sym (add-one s))
-
-pub each_all : (g : FoldGains) (d k s : ℕ) (ls : List ℕ) (m : List Float) → length ls ≤ s → folded_each g d k s (drop s ls) m ≡ m
-each_all g d k s ls m h = ap (λ (l : List ℕ). folded_each g d k s l m) (drop_of_length-le ls h)
-
--- ---- a row
-
-module _ (xs : List Float) (at k : ℕ) (fits : at + k ≤ length xs) where
-  row_length : length (take k (drop at xs)) ≡ k
-  row_length = length-take-le k (drop at xs) (omega (arith, length-drop at xs))
-
-  pub row_more : (s : ℕ) (a : Float) → s < k → row_sum a (drop s (take k (drop at xs))) ≡ row_sum (add binary64 a (absolute (get_or xs (at + s) nan))) (drop (s + 1) (take k (drop at xs)))
-  row_more s a h =
-      ap (row_sum a) (drop-cons (take k (drop at xs)) s nan (omega (arith, row_length)))
-      ∙ ap (λ (x : Float). row_sum (add binary64 a (absolute x)) (drop (suc s) (take k (drop at xs)))) (get_or-take k (drop at xs) s nan h ∙ get_or-drop at xs s nan)
-      ∙ ap (λ (n : ℕ). row_sum (add binary64 a (absolute (get_or xs (at + s) nan))) (drop n (take k (drop at xs)))) (sym (add-one s))
-
-  pub row_all : (s : ℕ) (a : Float) → k ≤ s → row_sum a (drop s (take k (drop at xs))) ≡ a
-  row_all s a h = let n : length (take k (drop at xs)) ≤ s = omega (arith, row_length) in ap (row_sum a) (drop_of_length-le (take k (drop at xs)) n)
-
 -- ---- the rows
 
-pub rows_more : (xs : List Float) (k n d : ℕ) (a : Float) → d < n → largest a k (n - d) (drop (d * k) xs) ≡ largest (larger a (row_sum zero64 (take k (drop (d * k) xs)))) k (n - (d + 1)) (drop ((d + 1) * k) xs)
-rows_more xs k n d a h =
-    let e : n - d ≡ suc (n - (d + 1)) = omega arith in
-    ap (λ (j : ℕ). largest a k j (drop (d * k) xs)) e
-    ∙ ap (largest (larger a (row_sum zero64 (take k (drop (d * k) xs)))) k (n - (d + 1))) (drop-drop k (d * k) xs)
-    ∙ ap (λ (j : ℕ). largest (larger a (row_sum zero64 (take k (drop (d * k) xs)))) k (n - (d + 1)) (drop j xs)) (sym (ap (λ (j : ℕ). j * k) (add-one d) ∙ suc-mul d k))
+-- What is left of the entries is whole rows of k, which lead from a to the largest sum.
+pub record RowsLeft (k : ℕ) (a : Float) (left : List Float) (most : Float) : Type 0 where
+  pub count : ℕ
+  pub size : length left ≡ count * k
+  pub leads : largest a k count left ≡ most
 
-pub rows_all : (xs : List Float) (k n d : ℕ) (a : Float) → n ≤ d → largest a k (n - d) (drop (d * k) xs) ≡ a
-rows_all xs k n d a h = let e : n - d ≡ 0 = omega arith in ap (λ (j : ℕ). largest a k j (drop (d * k) xs)) e
+-- the first n rows alone have the same largest sum
+first_rows : (a : Float) (k n : ℕ) (xs : List Float) → largest a k n (take (n * k) xs) ≡ largest a k n xs
+first_rows a k zero xs = refl
+first_rows a k (suc n) xs =
+    ap (λ (j : ℕ). largest a k (suc n) (take j xs)) more
+    ∙ ap (λ (ys : List Float). largest (larger a (row_sum zero64 ys)) k n (drop k (take (k + n * k) xs))) (take-take k (k + n * k) xs (omega arith))
+    ∙ ap (largest (larger a (row_sum zero64 (take k xs))) k n) (sym (part_swap k (n * k) xs))
+    ∙ first_rows (larger a (row_sum zero64 (take k xs))) k n (drop k xs)
+  where
+    more : suc n * k ≡ k + n * k
+    more = omega (arith, suc-mul n k)
+
+pub rows_start : (k n : ℕ) (xs left : List Float) → left ≡ take (n * k) xs → n * k ≤ length xs → RowsLeft k zero64 left (largest zero64 k n xs)
+rows_start k n xs left e h =
+    record {
+      count = n;
+      size = ap length e ∙ length-take-le (n * k) xs h;
+      leads = ap (largest zero64 k n) e ∙ first_rows zero64 k n xs;
+    }
+
+pub rows_turn : (k : ℕ) (a sum b : Float) (left x rest : List Float) (most : Float) → 0 < k → left ≡ x ++ rest → length x ≡ k → sum ≡ row_sum zero64 x
+    → b ≡ larger a sum → RowsLeft k a left most → RowsLeft k b rest most
+rows_turn k a sum b left x rest most h e l p q r = go r.count r.size r.leads
+  where
+    long : length left ≡ k + length rest
+    long = omega (arith, ap length e, length-append x rest)
+
+    go : (n : ℕ) → length left ≡ n * k → largest a k n left ≡ most → RowsLeft k b rest most
+    go zero s m = absurd (omega (arith, long, zero-mul k))
+    go (suc n) s m =
+        record {
+          count = n;
+          size = omega (arith, long, suc-mul n k);
+          leads = ap (λ (y : Float). largest y k n rest) (q ∙ ap (larger a) p)
+              ∙ ap (λ (xs : List Float). largest (larger a (row_sum zero64 xs)) k n rest) (sym (ap (take k) e ∙ take_at x rest k l))
+              ∙ ap (largest (larger a (row_sum zero64 (take k left))) k n) (sym (ap (drop k) e ∙ drop_at x rest k l))
+              ∙ m;
+        }
+
+pub rows_end : (k : ℕ) (a : Float) (left : List Float) (most : Float) → length left < k → RowsLeft k a left most → a ≡ most
+rows_end k a left most h r = go r.count r.size r.leads
+  where
+    go : (n : ℕ) → length left ≡ n * k → largest a k n left ≡ most → a ≡ most
+    go zero s m = m
+    go (suc n) s m = absurd (omega (arith, suc-mul n k))

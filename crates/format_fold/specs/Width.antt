@@ -1,16 +1,14 @@
 -- `width_matrix`: the folded matrix, normalised where asked, rounded to f32; its tests; and the area that it writes. Definitions only.
-use Rattle.std.specs.Prelude.{ℕ, zero, suc, ◌*◌, Bool, not, ◌&&◌, cond, List, [], ◌∷◌, ◌++◌, map, ltb, length, take, drop, Float}
+use Rattle.std.specs.Prelude.{ℕ, zero, suc, ◌*◌, Bool, not, ◌&&◌, cond, List, [], ◌∷◌, ◌++◌, map, ltb, length, take, drop, Float, Ok}
 use Rattle.std.specs.Float.{binary64}
 use Rattle.std.specs.Float.Ieee.{add, div, neg, lt}
-use Rattle.refusal.specs.Numbers.{short_area, no_format, out_of_range}
-use Rattle.refusal.specs.Tests.{Test, test, first, area_after}
-use Rattle.refusal.specs.declared.Answer.{Answer}
-use Rattle.refusal.specs.declared.Answer.TheVariants.{Accepted}
+use Rattle.refusal.specs.Tests.{Test, test, first, area_after, Answer}
 use Rattle.rounding.specs.Narrow.{narrowed}
 use Rattle.format.specs.Formats.{unknown_format, channels}
 use Rattle.format.specs.Floats.{zero64, one64}
 use Rattle.format_fold.specs.Folds.{gains_in_range, matrix_of}
 use Rattle.format_fold.specs.declared.FoldGains.{FoldGains}
+use Rattle.refusal.specs.declared.Reason.TheVariants.{NoFormat, OutOfRange, ShortArea}
 
 -- ---- normalising
 
@@ -53,15 +51,15 @@ entries_of src dst g normalise =
 
 abbrev pub width_tests : ℕ → ℕ → FoldGains → ℕ → List Test
 width_tests src dst g n =
-    test no_format (unknown_format src)
-    ∷ test no_format (unknown_format dst)
-    ∷ test out_of_range (not (gains_in_range g))
-    ∷ test short_area (ltb n (channels dst * channels src))
+    test NoFormat (unknown_format src)
+    ∷ test NoFormat (unknown_format dst)
+    ∷ test OutOfRange (not (gains_in_range g))
+    ∷ test ShortArea (ltb n (channels dst * channels src))
     ∷ []
 
 unfoldable pub width_answer : ℕ → ℕ → FoldGains → ℕ → Answer
 unfolding gains_in_range channels
-width_answer src dst g n = first (width_tests src dst g n) Accepted
+width_answer src dst g n = first (width_tests src dst g n) (Ok tt)
 
 -- the area after the call: the entries, and the rest as it was
 unfoldable pub width_area : ℕ → ℕ → FoldGains → Bool → List Float → List Float

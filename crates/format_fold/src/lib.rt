@@ -1,14 +1,14 @@
 // The width mapping from one format to another as a matrix of gains. Ports `width_matrix` and `fold` of src/mix/format.rs.
 #![tactic(auto)]
 
-ghost use Rattle.std.specs.Prelude.{◌≡◌, ◌+◌, ◌<◌, ◌≤◌, ◌++◌, map, length, take, drop};
+ghost use Rattle.std.specs.Prelude.{◌≡◌, ◌<◌, ◌≤◌, ◌++◌, map, length, drop};
 ghost use Rattle.rounding.specs.Narrow.{narrowed};
 ghost use Rattle.format.specs.Floats.{zero64};
 ghost use Rattle.format_fold.specs.Folds.{gain_in_range, gains_in_range, first_had, folds_to, depth, folded, matrix_of};
-ghost use Rattle.format_fold.specs.Width.{absolute, row_sum, larger, largest, divided, normalised, width_answer, width_area};
+ghost use Rattle.format_fold.specs.Width.{absolute, row_sum, larger, divided, normalised, width_answer, width_area};
 
 use format::Format;
-use refusal::{Answer, Refusal};
+use refusal::{Answer, Reason};
 
 // The caller's linear gains. The pan pair is that of a mono signal in the centre, left and right.
 #[repr(C)]
@@ -36,20 +36,14 @@ pub enum Targets {
     Two(u32, f64, u32, f64),
 }
 
-const SIGN: u64 = 0x8000_0000_0000_0000;
-
 // 1/√2, the f64 with the bits 3FE6A09E667F3BCD.
 const HALF_POWER: f64 = 0.7071067811865476;
 
-// From +0 to 16.
-fn in_range(g: f64) -> bool
+// From +0 to 16: of an f32 too, which is the same number as an f64. It is for the crates above too, and no call of the interface.
+pub fn in_range(g: f64) -> bool
     ensures { result ≡ gain_in_range g }
 {
-    if g <= 16.0 {
-        // g is no NaN here, so its highest bit is its sign
-        return f64::to_bits(g) < SIGN;
-    }
-    false
+    g <= 16.0 && !g.is_sign_negative()
 }
 
 fn gains_in_range(g: FoldGains) -> bool
@@ -139,8 +133,8 @@ fn mapping(src: u32, dst: u32, g: FoldGains) -> Matrix
     let mut m = Matrix {
         entries: [0.0f64; 144],
     };
-    for s in 0..columns {
-        m = fold(Format::label(src, s), dst, 1.0, g, columns, s, m);
+    for (s, label) in Format::labels(src).iter().enumerate() {
+        m = fold(*label, dst, 1.0, g, columns, s, m);
     }
     m
 }
@@ -157,35 +151,22 @@ fn larger(a: f64, b: f64) -> f64
     if a < b { b } else { a }
 }
 
-// The sum of the magnitudes of the row that starts at an entry. Requires a row within the matrix.
-fn row_sum(m: Matrix, at: usize, columns: usize) -> f64
-    requires { at + columns ≤ 144 }
-    ensures { result ≡ row_sum zero64 (take columns (drop at m.entries)) }
+// The sum of the magnitudes of a row.
+fn row_sum(row: &[f64]) -> f64
+    ensures { result ≡ row_sum zero64 row.now }
 {
     let mut sum = 0.0;
-    for s in 0..columns {
-        sum = sum + absolute(m.entries[at + s]);
+    for x in row {
+        sum = sum + absolute(*x);
     }
     sum
-}
-
-// The largest sum of a row. Requires at most 12 rows and columns.
-fn largest(m: Matrix, rows: usize, columns: usize) -> f64
-    requires { (rows ≤ 12) × (columns ≤ 12) }
-    ensures { result ≡ largest zero64 columns rows m.entries }
-{
-    let mut most = 0.0;
-    for d in 0..rows {
-        most = larger(most, row_sum(m, d * columns, columns));
-    }
-    most
 }
 
 fn divided(mut m: Matrix, by: f64) -> Matrix
     ensures { result.entries ≡ divided by m.entries }
 {
-    for i in 0..144 {
-        m.entries[i] = m.entries[i] / by;
+    for x in m.entries.iter_mut() {
+        *x = *x / by;
     }
     m
 }
@@ -205,20 +186,23 @@ fn normalised(m: Matrix, rows: usize, columns: usize, normalise: bool) -> Matrix
     if columns <= rows {
         return m;
     }
-    let most = largest(m, rows, columns);
+    let mut most = 0.0;
+    for row in m.entries[..rows * columns].chunks_exact(columns) {
+        most = larger(most, row_sum(row));
+    }
     if 1.0 < most {
         return divided(m, most);
     }
     m
 }
 
-// The first n entries, as f32. Requires as many, and room for them.
-fn put(m: Matrix, n: usize, out: &mut [f32])
-    requires { (n ≤ 144) × (n ≤ length out.old) }
-    ensures { out.new ≡ map narrowed (take n m.entries) ++ drop n out.old }
+// The entries, as f32. Requires room for them.
+fn put(entries: &[f64], out: &mut [f32])
+    requires { length entries.now ≤ length out.old }
+    ensures { out.new ≡ map narrowed entries.now ++ drop (length entries.now) out.old }
 {
-    for i in 0..n {
-        out[i] = rounding::to_f32(m.entries[i]);
+    for (i, x) in entries.iter().enumerate() {
+        out[i] = rounding::to_f32(*x);
     }
 }
 
@@ -227,18 +211,18 @@ pub fn width_answer(src: u32, dst: u32, gains: FoldGains, n: usize) -> Answer
     ensures { result ≡ width_answer src dst gains n }
 {
     if Format::COUNT <= src {
-        return Answer::refused(Refusal::NO_FORMAT);
+        return Err(Reason::NoFormat.into());
     }
     if Format::COUNT <= dst {
-        return Answer::refused(Refusal::NO_FORMAT);
+        return Err(Reason::NoFormat.into());
     }
     if !gains_in_range(gains) {
-        return Answer::refused(Refusal::OUT_OF_RANGE);
+        return Err(Reason::OutOfRange.into());
     }
     if n < Format::channels(dst) * Format::channels(src) {
-        return Answer::refused(Refusal::SHORT_AREA);
+        return Err(Reason::ShortArea.into());
     }
-    Answer::Accepted
+    Ok(())
 }
 
 // The mapping from the format src to dst, written row by row to the front of `out`: a row for each channel of dst, a column for each of src.
@@ -251,16 +235,10 @@ pub fn width_matrix(
 ) -> Answer
     ensures { (result ≡ width_answer src dst gains (length out.old)) × (out.new ≡ width_area src dst gains normalise out.old) }
 {
-    let answer = width_answer(src, dst, gains, out.len());
-    let Answer::Accepted = answer else {
-        return answer;
-    };
+    width_answer(src, dst, gains, out.len())?;
     let columns = Format::channels(src);
     let rows = Format::channels(dst);
-    put(
-        normalised(mapping(src, dst, gains), rows, columns, normalise),
-        rows * columns,
-        out,
-    );
-    Answer::Accepted
+    let m = normalised(mapping(src, dst, gains), rows, columns, normalise);
+    put(&m.entries[..rows * columns], out);
+    Ok(())
 }

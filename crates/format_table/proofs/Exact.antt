@@ -10,7 +10,6 @@ use lib.ListN.{length}
 use lib.Ieee.{Float}
 use Rattle.lists.proofs.Bools.{or_none, none_or}
 use Rattle.lists.proofs.Scans.{counted_at, counted_none}
-use Rattle.refusal.specs.declared.Answer.TheVariants.{Accepted}
 use Rattle.refusal.proofs.Laws.{accepted_none}
 use Rattle.format.specs.Formats.{unknown_format}
 use Rattle.format_table.specs.Covered.{applies}
@@ -20,6 +19,7 @@ use Rattle.format_table.proofs.Covered.{source_of, destination_of}
 use Rattle.format_table.proofs.Tables.{unknown_counted, outside_counted}
 use Rattle.format_table.proofs.Faults.{pair_counted}
 use Rattle.format_table.proofs.Answers.{table_passes}
+use Rattle.std.specs.Prelude.{Ok}
 
 -- no entry is of what is no format
 pub known : (pairs : List ℕ) → some_unknown pairs (entries pairs) ≡ false → (k : ℕ) → k < entries pairs → (source_at pairs k < 7) × (destination_at pairs k < 7)
@@ -62,10 +62,10 @@ never_uncovered true = refl
 never_uncovered false = refl
 
 module _ (pairs : List ℕ) (gains : List Float) where
-  pub table_sound : table_answer pairs gains ≡ Accepted → TableSound pairs gains
+  pub table_sound : table_answer pairs gains ≡ Ok tt → TableSound pairs gains
   unfolding table_answer
   table_sound e =
-      let k = (accepted_none (table_tests pairs gains) Accepted e).0 in
+      let k = (accepted_none (table_tests pairs gains) (Ok tt) e).0 in
       record {
         formats = known pairs k.0;
         covered = λ s d hs hd a.
@@ -97,7 +97,7 @@ module _ (pairs : List ℕ) (gains : List Float) where
     by_cover : (t : Bool → ℕ → Bool) → ((c : Bool) → t c (cond c 1 0) ≡ false) → (a b : ℕ) → a < 7 → b < 7 → t (applies a b) (times pairs a b (entries pairs)) ≡ false
     by_cover t n a b ha hb = ap (t (applies a b)) (one_each a b ha hb) ∙ n (applies a b)
 
-    pub sound_accepted : table_answer pairs gains ≡ Accepted
+    pub sound_accepted : table_answer pairs gains ≡ Ok tt
     sound_accepted =
         table_passes pairs gains all_known s.enough all_in_range
         (no_pair (missing pairs) (by_cover (λ c n. c && eqb n 0) never_missing))

@@ -1,16 +1,18 @@
 -- The entries of a table and their gains: a turn of each loop over them, and where the gains of a pair's only entry are. Assumes nothing.
 use mathlib.Core.Path.{◌≡◌, refl, sym, ap, ◌∙◌}
 use mathlib.Core.Bool.{Bool, true, false, not, ◌||◌, cond, true≢false}
-use mathlib.Core.List.{List}
+use mathlib.Core.List.{List, []}
 use mathlib.Core.Logic.{⊎_elim}
 use Prim.Native.Nat.{ℕ, zero, suc, ◌+◌, ◌*◌, ◌<◌, ◌≤◌}
-use native.Mathlib.Nat.{not-suc-le-zero, le_of_suc-le-suc, eq-or-lt_of_le}
+use native.Mathlib.Nat.{add-zero, not-suc-le-zero, le_of_suc-le-suc, eq-or-lt_of_le}
 use native.Mathlib.Numerals.{add-one}
 use native.Mathlib.Omega.{arith}
 use borrow.Author.Tests.{eqb-true}
 use lib.Dec.{eqb}
-use lib.ListN.{length, get_or}
+use lib.ListN.{length, get_or, take, drop}
+use lib.Seq.{get_or-take, get_or-drop, drop-drop}
 use lib.Ieee.{Float, nan}
+use Rattle.std.specs.Simd.{first_chunks}
 use Rattle.lists.specs.Parts.{part}
 use Rattle.lists.proofs.Bools.{and_both}
 use Rattle.lists.proofs.Scans.{Counted}
@@ -26,6 +28,43 @@ unknown_counted pairs = record { none = refl; more = λ n. refl }
 pub outside_counted : (gains : List Float) → Counted (some_outside gains) (λ i. not (gain_in_range (get_or gains i nan)))
 unfolding some_outside
 outside_counted gains = record { none = refl; more = λ n. refl }
+
+-- ---- the entries as the code has them, two numbers each
+
+chunk_at : (k : ℕ) (xs : List ℕ) (i : ℕ) → i < k → get_or (first_chunks 2 k xs) i [] ≡ take 2 (drop (i * 2) xs)
+chunk_at zero xs i h = absurd (not-suc-le-zero h)
+chunk_at (suc k) xs zero h = refl
+chunk_at (suc k) xs (suc i) h =
+    chunk_at k (drop 2 xs) i (le_of_suc-le-suc h)
+    ∙ ap (take 2) (drop-drop (i * 2) 2 xs)
+    ∙ ap (λ (j : ℕ). take 2 (drop j xs)) (twice_more i)
+  where
+    twice_more : (i : ℕ) → 2 + i * 2 ≡ suc i * 2
+    twice_more i = omega arith
+
+chunks_long : (k : ℕ) (xs : List ℕ) → length (first_chunks 2 k xs) ≡ k
+chunks_long zero xs = refl
+chunks_long (suc k) xs = ap suc (chunks_long k (drop 2 xs))
+
+module _ (pairs : List ℕ) (items : List (List ℕ)) (e : items ≡ first_chunks 2 (entries pairs) pairs) where
+  pub items_long : length items ≡ entries pairs
+  items_long = ap length e ∙ chunks_long (entries pairs) pairs
+
+  module _ (i : ℕ) (h : i < length items) where
+    item_at : get_or items i [] ≡ take 2 (drop (i * 2) pairs)
+    item_at = ap (λ (l : List (List ℕ)). get_or l i []) e ∙ chunk_at (entries pairs) pairs i (omega (arith, items_long))
+
+    number_at : (j : ℕ) → j < 2 → get_or (get_or items i []) j 0 ≡ get_or pairs (i * 2 + j) 0
+    number_at j l = ap (λ (r : List ℕ). get_or r j 0) item_at ∙ get_or-take 2 (drop (i * 2) pairs) j 0 l ∙ get_or-drop (i * 2) pairs j 0
+
+    pub source_is : get_or (get_or items i []) 0 0 ≡ source_at pairs i
+    source_is = number_at 0 (omega arith) ∙ ap (λ (j : ℕ). get_or pairs j 0) (add-zero (i * 2))
+
+    pub destination_is : get_or (get_or items i []) 1 0 ≡ destination_at pairs i
+    destination_is = number_at 1 (omega arith)
+
+    pub size_is : {n : ℕ} → n ≡ channels (get_or (get_or items i []) 1 0) * channels (get_or (get_or items i []) 0 0) → n ≡ size_at pairs i
+    size_is p = p ∙ ap (λ (d : ℕ). channels d * channels (get_or (get_or items i []) 0 0)) destination_is ∙ ap (λ (s : ℕ). channels (destination_at pairs i) * channels s) source_is
 
 -- ---- the gains before an entry
 

@@ -9,7 +9,6 @@ use lib.ListN.{length, drop}
 use lib.Ieee.{Float}
 use Rattle.refusal.specs.Tests.{first}
 use Rattle.refusal.specs.declared.Refusal.{Refusal}
-use Rattle.refusal.specs.declared.Answer.TheVariants.{Accepted, Refused}
 use Rattle.refusal.proofs.Laws.{first_append, refused_rest, none_rest, none_split, none_accepted, accepted_none, outcome_accepted, refused_keeps}
 use Rattle.format.specs.Formats.{channels}
 use Rattle.format_fold.specs.Width.{entries_of, width_tests, width_answer, width_area}
@@ -19,29 +18,30 @@ use Rattle.format_table.specs.Tables.{table_entry, table_tests, table_answer}
 use Rattle.format_table.specs.Sound.{TableSound}
 use Rattle.format_table.specs.With.{with_tests, with_answer, with_entries, with_area}
 use Rattle.format_table.proofs.Exact.{table_sound, sound_accepted}
+use Rattle.std.specs.Prelude.{Ok, Err}
 
 -- ---- the answer
 
 module _ (src dst : ℕ) (g : FoldGains) (n : ℕ) (pairs : List ℕ) (gains : List Float) where
   -- what the fold refuses alone it refuses with any table, by the same number
-  pub own_refused : (r : Refusal) → width_answer src dst g n ≡ Refused r → with_answer src dst g n pairs gains ≡ Refused r
+  pub own_refused : (r : Refusal) → width_answer src dst g n ≡ Err r → with_answer src dst g n pairs gains ≡ Err r
   unfolding with_answer width_answer
-  own_refused r e = first_append (width_tests src dst g n) (table_tests pairs gains) Accepted ∙ refused_rest (width_tests src dst g n) (first (table_tests pairs gains) Accepted) r e
+  own_refused r e = first_append (width_tests src dst g n) (table_tests pairs gains) (Ok tt) ∙ refused_rest (width_tests src dst g n) (first (table_tests pairs gains) (Ok tt)) r e
 
   -- and else the table answers, whatever pair is asked
-  pub own_accepted : width_answer src dst g n ≡ Accepted → with_answer src dst g n pairs gains ≡ table_answer pairs gains
+  pub own_accepted : width_answer src dst g n ≡ Ok tt → with_answer src dst g n pairs gains ≡ table_answer pairs gains
   unfolding with_answer width_answer table_answer
   own_accepted e =
-      first_append (width_tests src dst g n) (table_tests pairs gains) Accepted
-      ∙ none_rest (width_tests src dst g n) (first (table_tests pairs gains) Accepted) (accepted_none (width_tests src dst g n) Accepted e).0
+      first_append (width_tests src dst g n) (table_tests pairs gains) (Ok tt)
+      ∙ none_rest (width_tests src dst g n) (first (table_tests pairs gains) (Ok tt)) (accepted_none (width_tests src dst g n) (Ok tt) e).0
 
-  fold_accepted : with_answer src dst g n pairs gains ≡ Accepted → width_answer src dst g n ≡ Accepted
+  fold_accepted : with_answer src dst g n pairs gains ≡ Ok tt → width_answer src dst g n ≡ Ok tt
   unfolding with_answer width_answer
   fold_accepted e =
       none_accepted (width_tests src dst g n)
-      (none_split (width_tests src dst g n) (table_tests pairs gains) (accepted_none (with_tests src dst g n pairs gains) Accepted e).0).0
+      (none_split (width_tests src dst g n) (table_tests pairs gains) (accepted_none (with_tests src dst g n pairs gains) (Ok tt) e).0).0
 
-  pub with_exactly : (with_answer src dst g n pairs gains ≡ Accepted) ↔ ((width_answer src dst g n ≡ Accepted) × TableSound pairs gains)
+  pub with_exactly : (with_answer src dst g n pairs gains ≡ Ok tt) ↔ ((width_answer src dst g n ≡ Ok tt) × TableSound pairs gains)
   with_exactly = (
     λ e. let w = fold_accepted e in (w, table_sound pairs gains (sym (own_accepted w) ∙ e)),
     λ s. own_accepted s.0 ∙ sound_accepted pairs gains s.1,
@@ -50,11 +50,11 @@ module _ (src dst : ℕ) (g : FoldGains) (n : ℕ) (pairs : List ℕ) (gains : L
 -- ---- the area
 
 module _ (src dst : ℕ) (g : FoldGains) (normalise : Bool) (pairs : List ℕ) (gains area : List Float) where
-  pub with_refused : (r : Refusal) → with_answer src dst g (length area) pairs gains ≡ Refused r → with_area src dst g normalise pairs gains area ≡ area
+  pub with_refused : (r : Refusal) → with_answer src dst g (length area) pairs gains ≡ Err r → with_area src dst g normalise pairs gains area ≡ area
   unfolding with_area
   with_refused r e = refused_keeps (with_answer src dst g (length area) pairs gains) (with_entries src dst g normalise pairs gains ++ drop (channels dst * channels src) area) area r e
 
-  module _ (e : with_answer src dst g (length area) pairs gains ≡ Accepted) where
+  module _ (e : with_answer src dst g (length area) pairs gains ≡ Ok tt) where
     written : with_area src dst g normalise pairs gains area ≡ with_entries src dst g normalise pairs gains ++ drop (channels dst * channels src) area
     unfolding with_area
     written =

@@ -1,15 +1,13 @@
 -- A house table (request C-14): `pairs`, two numbers an entry, its source and its destination format, and `gains`, entry after entry, row by row.
 -- Definitions only.
-use Rattle.std.specs.Prelude.{ℕ, zero, suc, ◌+◌, ◌*◌, ◌/◌, ◌%◌, Bool, false, not, ◌&&◌, ◌||◌, cond, List, [], ◌∷◌, eqb, ltb, length, get_or, Float}
+use Rattle.std.specs.Prelude.{ℕ, zero, suc, ◌+◌, ◌*◌, ◌/◌, ◌%◌, Bool, false, not, ◌&&◌, ◌||◌, cond, List, [], ◌∷◌, eqb, ltb, length, get_or, Float, Ok}
 use Rattle.std.specs.Float.{nan}
 use Rattle.lists.specs.Parts.{part}
-use Rattle.refusal.specs.Numbers.{short_area, no_format, out_of_range, no_entry, pair_twice, pair_not_covered}
-use Rattle.refusal.specs.Tests.{Test, test, first}
-use Rattle.refusal.specs.declared.Answer.{Answer}
-use Rattle.refusal.specs.declared.Answer.TheVariants.{Accepted}
+use Rattle.refusal.specs.Tests.{Test, test, first, Answer}
 use Rattle.format.specs.Formats.{unknown_format, channels}
 use Rattle.format_fold.specs.Folds.{gain_in_range}
 use Rattle.format_table.specs.Covered.{applies}
+use Rattle.refusal.specs.declared.Reason.TheVariants.{NoEntry, NoFormat, OutOfRange, PairNotCovered, PairTwice, ShortArea}
 
 -- ---- the entries
 
@@ -92,14 +90,14 @@ uncovered pairs src dst = not (applies src dst) && ltb 0 (times pairs src dst (e
 
 abbrev pub table_tests : List ℕ → List Float → List Test
 table_tests pairs gains =
-    test no_format (some_unknown pairs (entries pairs))
-    ∷ test short_area (ltb (length gains) (needed pairs (entries pairs)))
-    ∷ test out_of_range (some_outside gains (needed pairs (entries pairs)))
-    ∷ test no_entry (some_pair (missing pairs) all_pairs)
-    ∷ test pair_twice (some_pair (twice pairs) all_pairs)
-    ∷ test pair_not_covered (some_pair (uncovered pairs) all_pairs)
+    test NoFormat (some_unknown pairs (entries pairs))
+    ∷ test ShortArea (ltb (length gains) (needed pairs (entries pairs)))
+    ∷ test OutOfRange (some_outside gains (needed pairs (entries pairs)))
+    ∷ test NoEntry (some_pair (missing pairs) all_pairs)
+    ∷ test PairTwice (some_pair (twice pairs) all_pairs)
+    ∷ test PairNotCovered (some_pair (uncovered pairs) all_pairs)
     ∷ []
 
 unfoldable pub table_answer : List ℕ → List Float → Answer
 unfolding applies some_unknown some_outside some_pair needed times
-table_answer pairs gains = first (table_tests pairs gains) Accepted
+table_answer pairs gains = first (table_tests pairs gains) (Ok tt)

@@ -1,9 +1,7 @@
 -- A fold with a house table: its own tests first, then the table's; for a pair that the table covers its entry, for the rest the built-in fold.
 -- Definitions only.
-use Rattle.std.specs.Prelude.{ℕ, ◌*◌, Bool, cond, List, ◌++◌, length, drop, Float}
-use Rattle.refusal.specs.Tests.{Test, first, area_after}
-use Rattle.refusal.specs.declared.Answer.{Answer}
-use Rattle.refusal.specs.declared.Answer.TheVariants.{Accepted}
+use Rattle.std.specs.Prelude.{ℕ, ◌*◌, Bool, cond, List, ◌++◌, length, drop, Float, Ok}
+use Rattle.refusal.specs.Tests.{Test, first, area_after, Answer}
 use Rattle.format.specs.Formats.{channels}
 use Rattle.format_fold.specs.Folds.{gains_in_range}
 use Rattle.format_fold.specs.Width.{entries_of, width_tests}
@@ -17,7 +15,7 @@ with_tests src dst g n pairs gains = width_tests src dst g n ++ table_tests pair
 
 unfoldable pub with_answer : ℕ → ℕ → FoldGains → ℕ → List ℕ → List Float → Answer
 unfolding gains_in_range channels applies some_unknown some_outside some_pair needed times
-with_answer src dst g n pairs gains = first (with_tests src dst g n pairs gains) Accepted
+with_answer src dst g n pairs gains = first (with_tests src dst g n pairs gains) (Ok tt)
 
 -- The entries, row after row. Of a pair that the table covers they are the table's, whatever the flag.
 unfoldable pub with_entries : ℕ → ℕ → FoldGains → Bool → List ℕ → List Float → List Float

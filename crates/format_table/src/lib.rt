@@ -25,18 +25,12 @@ pub fn width_matrix_with(
     ensures answer { result ≡ with_answer src dst gains (length out.old) pairs.now table_gains.now }
     ensures out { out.new ≡ with_area src dst gains normalise pairs.now table_gains.now out.old }
 {
-    let own = format_fold::width_answer(src, dst, gains, out.len());
-    let Answer::Accepted = own else {
-        return own;
-    };
-    let answer = table::table_answer(pairs, table_gains);
-    let Answer::Accepted = answer else {
-        return answer;
-    };
+    format_fold::width_answer(src, dst, gains, out.len())?;
+    table::table_answer(pairs, table_gains)?;
     if pairs::applies(src, dst) {
         let entry = table::find_entry(src, dst, pairs, table_gains);
         lists::put_floats(entry, 0, out);
-        return Answer::Accepted;
+        return Ok(());
     }
     format_fold::width_matrix(src, dst, gains, normalise, out)
 }

@@ -1,5 +1,6 @@
 // The pairs of formats: which of them a table covers, and how many of its entries are for each.
 ghost use Rattle.std.specs.Prelude.{◌≡◌, false, not, ◌&&◌, ◌||◌, ℕ, ◌/◌, ◌%◌, ◌<◌, eqb};
+ghost use Rattle.std.specs.Simd.{first_chunks};
 ghost use Rattle.sets.specs.Sets.{member};
 ghost use Rattle.format.specs.Formats.{labels};
 ghost use Rattle.format_table.specs.Covered.{lacks, applies};
@@ -27,23 +28,21 @@ pub struct Faults {
     pub uncovered: bool,
 }
 
-// How many entries there are: a last odd number is none.
-pub fn entries(pairs: &[u32]) -> usize
-    ensures { result ≡ entries pairs.now }
+// The entries, each a source and a destination: a last odd number is none.
+pub fn entries(pairs: &[u32]) -> &[[u32; 2]]
+    ensures { result.now ≡ first_chunks 2 (entries pairs.now) pairs.now }
 {
-    pairs.len() / 2
+    let (entries, _) = pairs.as_chunks::<2>();
+    entries
 }
 
 // The format dst lacks a label of src.
 fn lacks_label(src: u32, dst: u32) -> bool
     ensures { result ≡ lacks dst (labels src) }
 {
-    for c in 0..Format::channels(src) {
-        if !Format::has(dst, Format::label(src, c)) {
-            return true;
-        }
-    }
-    false
+    Format::labels(src)
+        .iter()
+        .any(|label| !Format::has(dst, *label))
 }
 
 // Whether a table covers the pair.
@@ -84,8 +83,8 @@ fn seen_in(pairs: &[u32]) -> Seen
         once: Set::empty(),
         twice: Set::empty(),
     };
-    for i in 0..entries(pairs) {
-        seen = with_pair(seen, pairs[i * 2] * Format::COUNT + pairs[i * 2 + 1]);
+    for [src, dst] in entries(pairs) {
+        seen = with_pair(seen, *src * Format::COUNT + *dst);
     }
     seen
 }

@@ -1,91 +1,50 @@
 // A table: its tests, and the gains of the entry for a pair.
-ghost use Rattle.std.specs.Prelude.{◌≡◌, ◌<◌, ◌≤◌, length};
-ghost use Rattle.format_fold.specs.Folds.{gain_in_range};
-ghost use Rattle.format_table.specs.Tables.{entries, entry_for, size_at, needed, times, table_entry, some_unknown, some_outside, table_answer};
+ghost use Rattle.std.specs.Prelude.{◌≡◌, ◌*◌, ◌≤◌, length};
+ghost use Rattle.format.specs.Formats.{channels};
+ghost use Rattle.format_table.specs.Tables.{entries, needed, times, table_entry, some_unknown, some_outside, table_answer};
 ghost use Rattle.format_table.specs.Loops.{needs_of};
 
 use crate::pairs;
 use format::Format;
-use refusal::{Answer, Refusal};
-
-// The gains that the entries need, where there are so many.
-#[derive(Clone, Copy)]
-pub enum Needs {
-    Short,
-    Gains(usize),
-}
-
-const SIGN: u32 = 0x8000_0000;
-
-// From +0 to 16.
-fn in_range(g: f32) -> bool
-    ensures { result ≡ gain_in_range g }
-{
-    if g <= 16.0 {
-        // g is no NaN here, so its highest bit is its sign
-        return f32::to_bits(g) < SIGN;
-    }
-    false
-}
+use format_fold::in_range;
+use refusal::{Answer, Reason};
 
 // One of the first n gains is not from +0 to 16. Requires so many.
 fn some_outside(gains: &[f32], n: usize) -> bool
     requires { n ≤ length gains.now }
     ensures { result ≡ some_outside gains.now n }
 {
-    let mut i = n;
-    while i > 0 {
-        i -= 1;
-        if !in_range(gains[i]) {
-            return true;
-        }
-    }
-    false
+    gains[..n].iter().any(|gain| !in_range(f64::from(*gain)))
 }
 
 // An entry has a format above 6.
 fn some_unknown(pairs: &[u32]) -> bool
     ensures { result ≡ some_unknown pairs.now (entries pairs.now) }
 {
-    let mut i = pairs::entries(pairs);
-    while i > 0 {
-        i -= 1;
-        if (Format::COUNT <= pairs[i * 2]) | (Format::COUNT <= pairs[i * 2 + 1]) {
-            return true;
-        }
-    }
-    false
+    let entries = pairs::entries(pairs);
+    entries.iter().any(|[src, dst]| (Format::COUNT <= *src) | (Format::COUNT <= *dst))
 }
 
-// The gains of entry i. Requires that there is such an entry.
-fn size_at(pairs: &[u32], i: usize) -> usize
-    requires { i < entries pairs.now }
-    ensures { (result ≡ size_at pairs.now i) × (result ≤ 144) }
+// The gains of an entry.
+fn size(src: u32, dst: u32) -> usize
+    ensures { (result ≡ channels dst * channels src) × (result ≤ 144) }
 {
-    Format::channels(pairs[i * 2 + 1]) * Format::channels(pairs[i * 2])
+    Format::channels(dst) * Format::channels(src)
 }
 
 // The gains that the entries need, of `room`. Their sum is never above the room.
-fn gains_needed(pairs: &[u32], room: usize) -> Needs
+fn gains_needed(pairs: &[u32], room: usize) -> Option<usize>
     ensures { result ≡ needs_of (needed pairs.now (entries pairs.now)) room }
 {
     let mut n = 0;
-    for i in 0..pairs::entries(pairs) {
-        let size = size_at(pairs, i);
+    for [src, dst] in pairs::entries(pairs) {
+        let size = size(*src, *dst);
         if room - n < size {
-            return Needs::Short;
+            return None;
         }
         n += size;
     }
-    Needs::Gains(n)
-}
-
-// Entry i is for the pair. Requires that there is such an entry.
-fn entry_for(pairs: &[u32], src: u32, dst: u32, i: usize) -> bool
-    requires { i < entries pairs.now }
-    ensures { result ≡ entry_for pairs.now src dst i }
-{
-    (pairs[i * 2] == src) & (pairs[i * 2 + 1] == dst)
+    Some(n)
 }
 
 // The gains of the pair's entry. Requires that the pair has one entry, and as many gains as all entries need.
@@ -94,9 +53,10 @@ pub fn find_entry<'a>(src: u32, dst: u32, pairs: &[u32], gains: &'a [f32]) -> &'
     ensures { result.now ≡ table_entry pairs.now gains.now src dst }
 {
     let mut at = 0;
-    for i in 0..pairs::entries(pairs) {
-        let end = at + size_at(pairs, i);
-        if entry_for(pairs, src, dst, i) {
+    for [from, to] in pairs::entries(pairs) {
+        let end = at + size(*from, *to);
+        let wanted = (*from == src) & (*to == dst);
+        if wanted {
             return &gains[at..end];
         }
         at = end;
@@ -109,23 +69,23 @@ pub fn table_answer(pairs: &[u32], gains: &[f32]) -> Answer
     ensures { result ≡ table_answer pairs.now gains.now }
 {
     if some_unknown(pairs) {
-        return Answer::refused(Refusal::NO_FORMAT);
+        return Err(Reason::NoFormat.into());
     }
-    let Needs::Gains(n) = gains_needed(pairs, gains.len()) else {
-        return Answer::refused(Refusal::SHORT_AREA);
+    let Some(n) = gains_needed(pairs, gains.len()) else {
+        return Err(Reason::ShortArea.into());
     };
     if some_outside(gains, n) {
-        return Answer::refused(Refusal::OUT_OF_RANGE);
+        return Err(Reason::OutOfRange.into());
     }
     let faults = pairs::faults_in(pairs);
     if faults.missing {
-        return Answer::refused(Refusal::NO_ENTRY);
+        return Err(Reason::NoEntry.into());
     }
     if faults.twice {
-        return Answer::refused(Refusal::PAIR_TWICE);
+        return Err(Reason::PairTwice.into());
     }
     if faults.uncovered {
-        return Answer::refused(Refusal::PAIR_NOT_COVERED);
+        return Err(Reason::PairNotCovered.into());
     }
-    Answer::Accepted
+    Ok(())
 }

@@ -21,15 +21,8 @@ pub const ENDS: usize = Step::INPUTS as usize;
 fn part(samples: &[f32], start: usize, len: usize) -> &[f32]
     ensures { result.now ≡ part start len samples.now }
 {
-    let n = samples.len();
-    if n <= start {
-        return &samples[n..];
-    }
-    if n - start <= len {
-        return &samples[start..];
-    }
-    let end = start + len;
-    &samples[start..end]
+    let rest = &samples[start.min(samples.len())..];
+    &rest[..len.min(rest.len())]
 }
 
 // For each input a place from which on no entry is for it: the one behind its last entry, or 0 where it has none. Requires a directory that is
@@ -48,6 +41,7 @@ pub fn search_ends(directory: &[u32], ends: &mut [u16; ENDS])
 }
 
 // Entry i is for the channel. Requires that there is such an entry.
+#[tactic(auto, using(crate::proofs::Input::entry_is))]
 fn entry_for(directory: &[u32], i: usize, input: u32, channel: u32) -> bool
     requires { i < entries directory.now }
     ensures { result ≡ entry_for directory.now input channel i }
@@ -80,18 +74,16 @@ fn lookup_below<'a>(
     requires { n ≤ entries directory.now }
     ensures { result.now ≡ lookup_below directory.now samples.now input channel n }
 {
-    let mut left = n;
-    while left > 0 {
-        let i = left - 1;
-        if entry_for(directory, i, input, channel) {
-            return entry_part(directory, samples, i);
+    for entry in (0..n).rev() {
+        if entry_for(directory, entry, input, channel) {
+            return entry_part(directory, samples, entry);
         }
-        left -= 1;
     }
     &samples[0..0]
 }
 
 // The channel lookup below the end of the input. Requires an input of a plan, and the ends of the directory.
+#[tactic(auto, using(crate::proofs::Input::lookup_below_lem, crate::proofs::Ends::ends_skip))]
 pub fn lookup_by_end<'a>(
     directory: &[u32],
     ends: &[u16],
@@ -107,6 +99,7 @@ pub fn lookup_by_end<'a>(
 }
 
 // The channel lookup: the part of the samples that the last entry for the channel names, or an empty part.
+#[tactic(auto, unfolding(crate::specs::Input::lookup))]
 pub fn lookup<'a>(directory: &[u32], samples: &'a [f32], input: u32, channel: u32) -> &'a [f32]
     ensures { result.now ≡ lookup directory.now samples.now input channel }
 {
@@ -119,9 +112,7 @@ fn some_past(directory: &[u32], m: usize, n: usize) -> bool
     requires { n * entry_words ≤ length directory.now }
     ensures { result ≡ some_past directory.now m n }
 {
-    let mut i = n;
-    while i > 0 {
-        i -= 1;
+    for i in (0..n).rev() {
         let at = i * ENTRY_WORDS;
         if directory[at + 2] as usize + directory[at + 3] as usize > m {
             return true;
@@ -131,6 +122,7 @@ fn some_past(directory: &[u32], m: usize, n: usize) -> bool
 }
 
 // Number 12, for `samples` samples.
+#[tactic(auto, unfolding(crate::specs::Input::directory_bad))]
 pub fn directory_bad(directory: &[u32], samples: usize) -> bool
     ensures { result ≡ directory_bad directory.now samples }
 {

@@ -8,9 +8,8 @@ use lib.Count.{ones, ones_in}
 use lib.ListN.{length, replicate}
 use lib.Ieee.{Float}
 use Rattle.lists.specs.Entries.{some_from, has, meet}
-use Rattle.refusal.specs.Tests.{refusal, first}
+use Rattle.refusal.specs.Tests.{Answer, refusal, first}
 use Rattle.refusal.specs.declared.Refusal.{Refusal}
-use Rattle.refusal.specs.declared.Answer.TheVariants.{Accepted, Refused}
 use Rattle.node.specs.Sizes.{node_float_count, node_word_count}
 use Rattle.node.specs.Nodes.{silence, new_node, set_node}
 use Rattle.node.specs.Areas.{floats_of, words_of}
@@ -28,6 +27,8 @@ use Rattle.insert.specs.declared.InsertPoint.{InsertPoint}
 use Rattle.insert.specs.Wiring.{send_calls, dry, wet, out, weights, patched_calls, switch_calls, out_calls, sent_calls}
 use Rattle.insert.specs.Insert.{insert_answer, answer_to, inserted}
 use Rattle.insert.specs.Found.{found_tests}
+use Rattle.refusal.specs.declared.Reason.TheVariants.{OutsideTable, UnreadableStep}
+use Rattle.std.specs.Prelude.{Ok, Err, Some}
 
 -- what a computation of builds and checks goes through
 unfoldable definitions : Unit {0}
@@ -73,7 +74,7 @@ rust_built = built stereo_source (map (asked unit_limits) (rust_calls stereo_sou
 
 -- with the Rust's own calls, all accepted, the check finds nothing
 pub rust_passes : (accepted stereo_source (map (asked unit_limits) (rust_calls stereo_source.plan wide)) ≡ rust_calls stereo_source.plan wide)
-    × (check_plan rust_built.plan (areas_with rust_built (replicate 8 silence)) ≡ Accepted)
+    × (check_plan rust_built.plan (areas_with rust_built (replicate 8 silence)) ≡ Ok tt)
 unfolding definitions
 rust_passes = (refl, refl)
 
@@ -81,8 +82,8 @@ abbrev insert_built : BuilderState
 insert_built = inserted unit_limits stereo_source wide
 
 -- with ours, 4 at the dry Send
-pub source_span_found : (answer_to unit_limits stereo_source wide ≡ Accepted)
-    × (check_plan insert_built.plan (areas_with insert_built (replicate 8 silence)) ≡ Refused (refusal 4 10))
+pub source_span_found : (answer_to unit_limits stereo_source wide ≡ Ok tt)
+    × (check_plan insert_built.plan (areas_with insert_built (replicate 8 silence)) ≡ Err (refusal OutsideTable (Some 10)))
 unfolding definitions
 source_span_found = (refl, refl)
 
@@ -100,31 +101,31 @@ abbrev word_read : BuilderState
 word_read = inserted unit_limits word_behind send_only
 
 -- the check ignores the word, and reads it as a step once there are more steps
-pub word_behind_passes : check_plan word_behind.plan (areas_with word_behind []) ≡ Accepted
+pub word_behind_passes : check_plan word_behind.plan (areas_with word_behind []) ≡ Ok tt
 unfolding definitions
 word_behind_passes = refl
 
-pub word_behind_read : (answer_to unit_limits word_behind send_only ≡ Accepted)
-    × (check_plan word_read.plan (areas_with word_read (replicate 1 silence)) ≡ Refused (refusal 3 2))
+pub word_behind_read : (answer_to unit_limits word_behind send_only ≡ Ok tt)
+    × (check_plan word_read.plan (areas_with word_read (replicate 1 silence)) ≡ Err (refusal UnreadableStep (Some 2)))
 unfolding definitions
 word_behind_read = (refl, refl)
 
 -- none of what may be found of an insert
-nothing_found : first (found_tests word_read.plan word_behind.plan.steps send_only 1) Accepted ≡ Accepted
+nothing_found : first (found_tests word_read.plan word_behind.plan.steps send_only 1) (Ok tt) ≡ Ok tt
 unfolding definitions
 nothing_found = refl
 
-never : (r : Refusal) → Refused r ≡ Accepted → ⊥
+never : (r : Refusal) → ◌≡◌ {A = Answer} (Err r) (Ok tt) → ⊥
 never r e = let z : ◌≡◌ {A = Bool} true false = cc in true≢false z
 
 -- so `insert_checked` without its premise is false
 pub no_words_after_needed : (
-    (s : BuilderState) (area : List Float) → check_plan s.plan (areas_with s area) ≡ Accepted
-    → (i : InsertPoint) → answer_to unit_limits s i ≡ Accepted
+    (s : BuilderState) (area : List Float) → check_plan s.plan (areas_with s area) ≡ Ok tt
+    → (i : InsertPoint) → answer_to unit_limits s i ≡ Ok tt
     → (buffers : List Float) → check_plan (inserted unit_limits s i).plan (areas_with (inserted unit_limits s i) buffers)
-    ≡ first (found_tests (inserted unit_limits s i).plan s.plan.steps i (length buffers)) Accepted
+    ≡ first (found_tests (inserted unit_limits s i).plan s.plan.steps i (length buffers)) (Ok tt)
     )
     → ⊥
 no_words_after_needed claim =
-    never (refusal 3 2)
+    never (refusal UnreadableStep (Some 2))
     (sym word_behind_read.1 ∙ claim word_behind [] word_behind_passes send_only word_behind_read.0 (replicate 1 silence) ∙ nothing_found)

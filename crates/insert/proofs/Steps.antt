@@ -11,10 +11,7 @@ use lib.Dec.{leb, ltb}
 use lib.ListN.{length, get_or, length-take, length-drop}
 use borrow.Author.Tests.{ltb-true, ltb-false, leb-true, leb-false, le-leb, lt-leb}
 use Rattle.lists.specs.Entries.{Disjoint}
-use Rattle.refusal.specs.Numbers.{outside_table}
-use Rattle.refusal.specs.Tests.{refusal, test_at, first}
-use Rattle.refusal.specs.declared.Answer.{Answer}
-use Rattle.refusal.specs.declared.Answer.TheVariants.{Accepted, Refused}
+use Rattle.refusal.specs.Tests.{refusal, test_at, first, Answer}
 use Rattle.format.specs.Formats.{channels}
 use Rattle.plan.specs.declared.Plan.{Plan}
 use Rattle.plan.specs.declared.Span.{Span}
@@ -32,6 +29,8 @@ use Rattle.builder.proofs.Given.{steps_given}
 use Rattle.insert.specs.declared.InsertPoint.{InsertPoint}
 use Rattle.insert.specs.Wiring.{patches, send, raw, ret, dry, wet, out, weights, dry_weights, insert_calls}
 use Rattle.insert.proofs.Wired.{returned, by_return}
+use Rattle.refusal.specs.declared.Reason.TheVariants.{OutsideTable}
+use Rattle.std.specs.Prelude.{Ok, Err, Some}
 
 -- ---- the steps
 
@@ -96,16 +95,16 @@ module _ (p q : Plan) (new : List ℕ) where
 
   -- what the tests of steps say, of which the first is step `place`
   abbrev pub decided : ℕ → List Step → Answer
-  decided place ss = first (tests_of q new place (length ss) ss) Accepted
+  decided place ss = first (tests_of q new place (length ss) ss) (Ok tt)
 
   -- ---- one step that passes, and one that is outside its tables
   pass : (place : ℕ) (x : Step) (xs : List Step) → Inside q x → Narrow x → Apart new x → decided place (x ∷ xs) ≡ decided (place + 1) xs
   pass place x xs a b c = rw ((outside_none q x).1 a, (wide_none x).1 b, (shares_none new x).1 c)
 
-  fails : (place : ℕ) (x : Step) (xs : List Step) → (Inside q x → ⊥) → decided place (x ∷ xs) ≡ Refused (refusal outside_table place)
+  fails : (place : ℕ) (x : Step) (xs : List Step) → (Inside q x → ⊥) → decided place (x ∷ xs) ≡ Err (refusal OutsideTable (Some place))
   fails place x xs never = go (outside q x) refl
     where
-      go : (b : Bool) → outside q x ≡ b → decided place (x ∷ xs) ≡ Refused (refusal outside_table place)
+      go : (b : Bool) → outside q x ≡ b → decided place (x ∷ xs) ≡ Err (refusal OutsideTable (Some place))
       go true e = rw e
       go false e = absurd (never ((outside_none q x).0 e))
 
@@ -160,12 +159,12 @@ module _ (p q : Plan) (new : List ℕ) where
         ∙ ap (λ (k : ℕ). decided k rest) e
 
     patches_decide : (input channel dst n place : ℕ) (rest : List Step) → 1 ≤ n → dst + n ≤ q.buffers
-        → decided place (patch_steps input channel dst n rest) ≡ first (test_at place outside_table (leb inputs input) ∷ []) (decided (place + n) rest)
+        → decided place (patch_steps input channel dst n rest) ≡ first (test_at place OutsideTable (leb inputs input) ∷ []) (decided (place + n) rest)
     patches_decide input channel dst zero place rest some room = absurd (omega arith)
     patches_decide input channel dst (suc n) place rest some room = go (leb inputs input) refl
       where
         go : (b : Bool) → leb inputs input ≡ b
-            → decided place (patch_steps input channel dst (suc n) rest) ≡ first (test_at place outside_table b ∷ []) (decided (place + suc n) rest)
+            → decided place (patch_steps input channel dst (suc n) rest) ≡ first (test_at place OutsideTable b ∷ []) (decided (place + suc n) rest)
         go true e =
             let h = leb-true inputs input e in
             fails place (Patch input channel dst) (patch_steps input (suc channel) (suc dst) n rest) (λ inside. omega (arith, h, inside.0))
@@ -179,14 +178,14 @@ module _ (p q : Plan) (new : List ℕ) where
       -- the send gain passes, and the Output where its slot is one
       pub sent_decides : (place : ℕ) (rest : List Step) → width ≤ m → p.nodes < q.nodes
           → decided place (Gain p.nodes i.src (send p i) ∷ Output (send p i) i.slot ∷ rest)
-          ≡ first (test_at (place + 1) outside_table (leb slots i.slot) ∷ []) (decided (place + 1 + 1) rest)
+          ≡ first (test_at (place + 1) OutsideTable (leb slots i.slot) ∷ []) (decided (place + 1 + 1) rest)
       sent_decides place rest room known =
           let output = Output (send p i) i.slot in
           rw (add-zero p.indices) at (stale_gain place p.nodes 0 width (output ∷ rest) known (omega arith) few i.src old)
           ∙ go (leb slots i.slot) refl
         where
           go : (b : Bool) → leb slots i.slot ≡ b
-              → decided (place + 1) (Output (send p i) i.slot ∷ rest) ≡ first (test_at (place + 1) outside_table b ∷ []) (decided (place + 1 + 1) rest)
+              → decided (place + 1) (Output (send p i) i.slot ∷ rest) ≡ first (test_at (place + 1) OutsideTable b ∷ []) (decided (place + 1 + 1) rest)
           go true e =
               let h = leb-true slots i.slot e in
               fails (place + 1) (Output (send p i) i.slot) rest (λ inside. omega (arith, h, inside.1))
@@ -201,7 +200,7 @@ module _ (p q : Plan) (new : List ℕ) where
             (apart_fresh a width (5 * width) width (omega arith) h)
 
         -- the dry Send asks for n × n weights, and has none where the source span is longer than the format's channels
-        sends_decide : (place : ℕ) → decided place (send_steps p i) ≡ first (test_at place outside_table (ltb width i.src.len) ∷ []) Accepted
+        sends_decide : (place : ℕ) → decided place (send_steps p i) ≡ first (test_at place OutsideTable (ltb width i.src.len) ∷ []) (Ok tt)
         sends_decide place = go (ltb width i.src.len)
           where
             wet_send : Step
@@ -209,7 +208,7 @@ module _ (p q : Plan) (new : List ℕ) where
 
             go : (b : Bool)
                 → decided place (Send (p.nodes + 4) (dry p i) (out p i) (span p.coefficients (cond b 0 (width * width))) ∷ wet_send ∷ [])
-                ≡ first (test_at place outside_table b ∷ []) Accepted
+                ≡ first (test_at place OutsideTable b ∷ []) (Ok tt)
             go true =
                 let more : 0 < width * width = mul-pos some some in
                 fails place (Send (p.nodes + 4) (dry p i) (out p i) (span p.coefficients 0)) (wet_send ∷ []) (λ inside. omega (arith, more, inside.4))
@@ -217,7 +216,7 @@ module _ (p q : Plan) (new : List ℕ) where
                 send_passes place (p.nodes + 4) (3 * width) (wet_send ∷ []) (omega arith) (omega arith)
                 ∙ send_passes (place + 1) (p.nodes + 5) (4 * width) [] (omega arith) (omega arith)
 
-        later_decide : (place : ℕ) → decided place (later_steps p i) ≡ first (test_at (place + 4) outside_table (ltb width i.src.len) ∷ []) Accepted
+        later_decide : (place : ℕ) → decided place (later_steps p i) ≡ first (test_at (place + 4) OutsideTable (ltb width i.src.len) ∷ []) (Ok tt)
         later_decide place =
             let e : place + 1 + 1 + 1 + 1 ≡ place + 4 = omega arith in
             let sends = send_steps p i in
@@ -229,12 +228,12 @@ module _ (p q : Plan) (new : List ℕ) where
             ∙ fresh_gain (place + 1 + 1) (p.nodes + 3) (4 * width) width clear (omega arith) (omega arith) few (2 * width) (omega arith)
             ∙ pass (place + 1 + 1 + 1) (Clear (out p i)) sends (omega (arith, f.indices)) tt tt
             ∙ sends_decide (place + 1 + 1 + 1 + 1)
-            ∙ ap (λ (k : ℕ). first (test_at k outside_table (ltb width i.src.len) ∷ []) Accepted) e
+            ∙ ap (λ (k : ℕ). first (test_at k OutsideTable (ltb width i.src.len) ∷ []) (Ok tt)) e
 
         -- the return: its input, which counts from 1, and the source span
         pub return_decides : (place : ℕ)
             → decided place (return_steps p i)
-            ≡ first (test_at place outside_table (ltb inputs i.back.input) ∷ test_at (place + width + 4) outside_table (ltb width i.src.len) ∷ []) Accepted
+            ≡ first (test_at place OutsideTable (ltb inputs i.back.input) ∷ test_at (place + width + 4) OutsideTable (ltb width i.src.len) ∷ []) (Ok tt)
         return_decides place =
             patches_decide (i.back.input - 1) (i.back.channel - 1) (p.buffers + width) width place (later_steps p i) some (omega (arith, f.buffers))
             ∙ rw (counted_from_one i.back.input, later_decide (place + width))

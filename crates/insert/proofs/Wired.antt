@@ -13,7 +13,6 @@ use lib.Ieee.{Float}
 use borrow.Author.Tests.{le-ltb}
 use Rattle.refusal.specs.Tests.{NoneHolds}
 use Rattle.refusal.specs.declared.Refusal.{Refusal}
-use Rattle.refusal.specs.declared.Answer.TheVariants.{Accepted, Refused}
 use Rattle.refusal.proofs.Laws.{outcome_accepted, outcome_refused, accepted_none, none_accepted}
 use Rattle.node.specs.Sizes.{max_values, ramp_too_long}
 use Rattle.node.specs.Nodes.{silence}
@@ -25,7 +24,6 @@ use Rattle.plan.specs.declared.Limits.{Limits}
 use Rattle.plan.specs.declared.Span.{Span}
 use Rattle.plan.specs.Words.{clear_map, output_map, span, step_of, read_at}
 use Rattle.plan.specs.Check.{too_wide}
-use Rattle.builder.specs.declared.Change.TheVariants.{Add}
 use Rattle.builder.specs.declared.Growth.{Growth}
 use Rattle.builder.specs.Growth.{grown, buffers_growth, node_growth, step_growth}
 use Rattle.builder.specs.Calls.{too_many}
@@ -35,6 +33,7 @@ use Rattle.builder.proofs.Accepted.{really_grown, all_accepted, accepted_fit}
 use Rattle.insert.specs.declared.InsertPoint.{InsertPoint}
 use Rattle.insert.specs.Wiring.{gain_calls, patches, send_calls, diagonal, identity, dry_gain, wet_gain, raw, ret, dry, wet, out, weights, dry_weights, switch_calls, out_calls, sum_calls, sent_calls, return_calls, insert_calls}
 use Rattle.insert.specs.Insert.{insert_growth, insert_ids, insert_first, insert_tests, insert_answer, answer_to, inserted}
+use Rattle.std.specs.Prelude.{Ok, Err, Some}
 
 -- each node of a list of calls has this ramp
 abbrev pub RampIs : ℕ → List BuilderCall → Type 0
@@ -58,7 +57,7 @@ length_identity n = length_diagonal n n
 -- a growth, with other steps and words
 abbrev with_steps : Growth → ℕ → ℕ → Growth
 with_steps g steps words =
-    record { buffers = g.buffers; indices = g.indices; coefficients = g.coefficients; nodes = g.nodes; steps = Add steps; words = Add words }
+    record { buffers = g.buffers; indices = g.indices; coefficients = g.coefficients; nodes = g.nodes; steps = Some steps; words = Some words }
 
 module _ (input : ℕ) (cs : List BuilderCall) where
   abbrev patched : ℕ → ℕ → ℕ → List BuilderCall
@@ -176,7 +175,7 @@ module _ (p : Plan) (i : InsertPoint) where
       by_return (λ returns cs. growth_of_all cs ≡ insert_growth returns n) refl
       (ap (λ (g : Growth). sum node_growth (sum (buffers_growth n) (sum (step_growth 6) (sum (step_growth 4) (sum (buffers_growth n) g)))))
       (patches_grow (i.back.input - 1) returned (growth_of_all returned) 6 37 (i.back.channel - 1) (p.buffers + n) n refl)
-      ∙ λ j. record { buffers = Add (runs j); indices = Add (runs j); coefficients = Add (length_identity n j); nodes = Add 6; steps = Add (steps j); words = Add (words j) })
+      ∙ λ j. record { buffers = Some (runs j); indices = Some (runs j); coefficients = Some (length_identity n j); nodes = Some 6; steps = Some (steps j); words = Some (words j) })
     where
       runs : n + (n + (n + (n + (n + n)))) ≡ 6 * n
       runs = omega arith
@@ -255,11 +254,11 @@ module _ (l : Limits) (s : BuilderState) (i : InsertPoint) where
   fits = λ j. FitsAsOne l s (sym (insert_grows s.plan i) j) (sym (insert_ids_lem s.plan i) j)
 
   -- Given that none of 16, 18 and 4 holds, an insert is accepted exactly where every single call is.
-  pub insert_exactly : NoneHolds (insert_first s.plan i) → (answer_to l s i ≡ Accepted) ↔ (accepted s (map (asked l) calls) ≡ calls)
+  pub insert_exactly : NoneHolds (insert_first s.plan i) → (answer_to l s i ≡ Ok tt) ↔ (accepted s (map (asked l) calls) ≡ calls)
   unfolding insert_answer
   insert_exactly own = (
     λ e.
-        let none = (accepted_none (insert_tests l s.plan i (lengths s) s.words) Accepted e).0.1.1.1 in
+        let none = (accepted_none (insert_tests l s.plan i (lengths s) s.words) (Ok tt) e).0.1.1.1 in
         all_accepted l calls s
         (transport fits (record { limits = (none.0, tt); areas = none.1.0; new = none.1.1.0 }))
         (insert_good s.plan i none.1.1.1.0),
@@ -270,20 +269,20 @@ module _ (l : Limits) (s : BuilderState) (i : InsertPoint) where
         (own.0, (own.1.0, (own.1.1.0, (f.limits.0, (f.areas, (f.new, (good_ramp s.plan i h.1, tt))))))),
   )
 
-  pub insert_accepted : answer_to l s i ≡ Accepted → accepted s (map (asked l) calls) ≡ calls
+  pub insert_accepted : answer_to l s i ≡ Ok tt → accepted s (map (asked l) calls) ≡ calls
   unfolding insert_answer
   insert_accepted e =
-      let none = (accepted_none (insert_tests l s.plan i (lengths s) s.words) Accepted e).0 in
+      let none = (accepted_none (insert_tests l s.plan i (lengths s) s.words) (Ok tt) e).0 in
       (insert_exactly (none.0, (none.1.0, (none.1.1.0, tt)))).0 e
 
   -- all of its calls, or nothing
-  pub inserted_all : answer_to l s i ≡ Accepted → inserted l s i ≡ built s (map (asked l) calls)
+  pub inserted_all : answer_to l s i ≡ Ok tt → inserted l s i ≡ built s (map (asked l) calls)
   inserted_all e = outcome_accepted (answer_to l s i) (built s (map (asked l) calls)) _ e
 
-  pub insert_refused : (r : Refusal) → answer_to l s i ≡ Refused r → inserted l s i ≡ s
+  pub insert_refused : (r : Refusal) → answer_to l s i ≡ Err r → inserted l s i ≡ s
   insert_refused r e = outcome_refused (answer_to l s i) (built s (map (asked l) calls)) (λ _. s) r e
 
-  pub insert_plan : answer_to l s i ≡ Accepted → (inserted l s i).plan ≡ grown s.plan growth
+  pub insert_plan : answer_to l s i ≡ Ok tt → (inserted l s i).plan ≡ grown s.plan growth
   insert_plan e =
       ap (λ (t : BuilderState). t.plan) (inserted_all e)
       ∙ really_grown (map (asked l) calls) s

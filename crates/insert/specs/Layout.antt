@@ -1,7 +1,6 @@
 -- Lists of calls, each a single builder call or an insert: what they leave, which of them are accepted, and the draft of the accepted ones. Definitions only.
 use Rattle.std.specs.Prelude.{List, [], ◌∷◌, length}
-use Rattle.refusal.specs.Tests.{outcome}
-use Rattle.refusal.specs.declared.Answer.{Answer}
+use Rattle.refusal.specs.Tests.{outcome, Answer}
 use Rattle.format.specs.Formats.{channels}
 use Rattle.plan.specs.declared.Plan.{Plan}
 use Rattle.plan.specs.declared.Limits.{Limits}

@@ -2,21 +2,20 @@
 // what it takes.
 #![tactic(auto)]
 
-ghost use Rattle.std.specs.Prelude.{◌≡◌, ◌*◌, ◌≤◌, length, drop};
-ghost use Rattle.lists.specs.Entries.{has};
+ghost use Rattle.std.specs.Prelude.{◌≡◌, ◌*◌, ◌≤◌, length};
 ghost use Rattle.node.specs.Sizes.{node_word_count};
 ghost use Rattle.builder.specs.Growth.{lengths_of};
 ghost use Rattle.builder.specs.Sums.{ids_taken};
 ghost use Rattle.insert.specs.Insert.{insert_growth, insert_ids, return_bad, insert_answer};
 
-use builder::{Change, Growth};
+use builder::Growth;
 use builder_answers::limits::{grows_past, limits_answer};
 use format::Format;
 use insert::{InsertIds, InsertPoint, InsertReturn};
 use node::Node;
 use plan::{Limits, Plan};
 use plan_steps::span_past;
-use refusal::{Answer, Refusal};
+use refusal::{Answer, Reason};
 
 // The last channel that four bytes hold.
 const MAX_CHANNEL: usize = 4_294_967_295;
@@ -28,21 +27,21 @@ fn insert_growth(returns: bool, n: usize) -> Growth
 {
     if returns {
         return Growth {
-            buffers: Change::Add(6 * n),
-            indices: Change::Add(6 * n),
-            coefficients: Change::Add(n * n),
-            nodes: Change::Add(6),
-            steps: Change::Add(n + 8),
-            words: Change::Add(4 * n + 47),
+            buffers: Some(6 * n),
+            indices: Some(6 * n),
+            coefficients: Some(n * n),
+            nodes: Some(6),
+            steps: Some(n + 8),
+            words: Some(4 * n + 47),
         };
     }
     Growth {
-        buffers: Change::Add(n),
-        indices: Change::Add(n),
-        coefficients: Change::Same,
-        nodes: Change::Add(1),
-        steps: Change::Add(2),
-        words: Change::Add(10),
+        buffers: Some(n),
+        indices: Some(n),
+        coefficients: None,
+        nodes: Some(1),
+        steps: Some(2),
+        words: Some(10),
     }
 }
 
@@ -55,35 +54,19 @@ fn return_bad(n: usize, back: InsertReturn) -> bool
     (back.input == 0) | (back.channel == 0) | (last > MAX_CHANNEL)
 }
 
-// An id that stands in a list from a place on.
-fn has_from(ids: &[u32], from: usize, id: u32) -> bool
-    ensures { result ≡ has (drop from ids.now) id }
-{
-    let mut i = from;
-    while i < ids.len() {
-        if ids[i] == id {
-            return true;
-        }
-        i += 1;
-    }
-    false
-}
-
 // Number 8 of a list of ids. Requires the words of all n nodes.
+#[tactic(auto, using(crate::proofs::Ids::taken_turn))]
 fn ids_taken(words: &[u32], n: usize, ids: &[u32]) -> bool
     requires { n * node_word_count ≤ length words.now }
     ensures { result ≡ ids_taken words.now n ids.now }
 {
-    let mut i = 0;
-    while i < ids.len() {
-        let id = ids[i];
-        if plan_areas::id_among(words, n, id) {
+    for (i, id) in ids.iter().enumerate() {
+        if plan_areas::id_among(words, n, *id) {
             return true;
         }
-        if has_from(ids, i + 1, id) {
+        if ids[i + 1..].contains(id) {
             return true;
         }
-        i += 1;
     }
     false
 }
@@ -102,6 +85,7 @@ fn insert_ids_taken(words: &[u32], n: usize, returns: bool, ids: InsertIds) -> b
 }
 
 // The answer to an insert: 16; with a return 18; 4; then, of the whole, 5, 2, 8, 10. It is handed the lengths of the areas, and lent the node words, which it reads.
+#[tactic(auto, using(format::proofs::Labels::channels_le, format::proofs::Labels::channels_least), unfolding(insert::specs::Insert::insert_answer))]
 pub fn insert_answer(
     limits: Limits,
     plan: Plan,
@@ -115,20 +99,18 @@ pub fn insert_answer(
     ensures { result ≡ insert_answer limits plan insert (lengths_of indices coefficients floats (length words.now) steps) words.now }
 {
     if Format::COUNT <= insert.format {
-        return Answer::refused(Refusal::NO_FORMAT);
+        return Err(Reason::NoFormat.into());
     }
     let n = Format::channels(insert.format);
     let returns = insert.returns;
     if returns & return_bad(n, insert.back) {
-        return Answer::refused(Refusal::BAD_RETURN);
+        return Err(Reason::BadReturn.into());
     }
     if span_past(plan.indices, insert.src) {
-        return Answer::refused(Refusal::OUTSIDE_TABLE);
+        return Err(Reason::OutsideTable.into());
     }
     let growth = insert_growth(returns, n);
-    if let Answer::Refused(r) = limits_answer(limits, plan, growth) {
-        return Answer::Refused(r);
-    }
+    limits_answer(limits, plan, growth)?;
     if grows_past(
         plan,
         growth,
@@ -138,13 +120,13 @@ pub fn insert_answer(
         words.len(),
         steps,
     ) {
-        return Answer::refused(Refusal::SHORT_AREA);
+        return Err(Reason::ShortArea.into());
     }
     if insert_ids_taken(words, plan.nodes, returns, insert.ids) {
-        return Answer::refused(Refusal::ID_TAKEN);
+        return Err(Reason::IdTaken.into());
     }
     if insert.ramp > Node::MAX_RAMP {
-        return Answer::refused(Refusal::LONG_RAMP);
+        return Err(Reason::LongRamp.into());
     }
-    Answer::Accepted
+    Ok(())
 }

@@ -1,5 +1,6 @@
 -- The calls that the functions make, from the numbers that they work out, are those of the insert. Assumes nothing.
 use mathlib.Core.Path.{◌≡◌, refl}
+use mathlib.Core.Bool.{Bool, true, false, not}
 use mathlib.Core.List.{List, [], ◌∷◌, ◌++◌}
 use Prim.Native.Nat.{ℕ, ◌+◌, ◌-◌, ◌*◌, ◌≤◌}
 use native.Mathlib.Omega.{arith}
@@ -15,6 +16,11 @@ use Rattle.insert.specs.declared.InsertPoint.{InsertPoint}
 use Rattle.insert.specs.Wiring.{gain_calls, patches, send_calls, identity, dry_gain, wet_gain, dry_weights, sent_calls, patched_calls, switch_calls, out_calls, sum_calls}
 use Rattle.insert_calls.specs.Loops.{ReturnFits}
 
+-- the wet path is heard where the dry one is not
+pub wet_at_bypass : (bypass : Bool) → dry_gain (not bypass) ≡ wet_gain bypass
+wet_at_bypass true = refl
+wet_at_bypass false = refl
+
 module _ (p : Plan) (i : InsertPoint) {n : ℕ} (en : n ≡ channels i.format) where
   pub few : n ≤ 12
   few = omega (arith, en, channels_le i.format)
@@ -22,9 +28,6 @@ module _ (p : Plan) (i : InsertPoint) {n : ℕ} (en : n ≡ channels i.format) w
   -- what `fresh` asks
   pub run_fits : ReturnFits p i → (k : ℕ) → k ≤ 5 → (n ≤ 12) × ((k ≤ 5) × (p.indices + 6 * n ≤ unit_limits.indices))
   run_fits f k h = (few, (h, rw en f.indices))
-
-  pub run_few : {start : ℕ} {s : Span} → s ≡ span start n → s.len ≤ 12
-  run_few e = rw e few
 
   pub sent_calls_lem : gain_calls i.ids.send i.gain i.ramp p.nodes i.src (span p.indices n) ++ step (output_map ∷ p.indices ∷ n ∷ i.slot ∷ []) ∷ []
       ≡ sent_calls p i

@@ -5,7 +5,7 @@ ghost use Rattle.format.specs.Formats.{channels};
 ghost use Rattle.plan.specs.Limits.{unit_limits};
 ghost use Rattle.plan.specs.Words.{span};
 ghost use Rattle.builder.specs.Built.{builder_state};
-ghost use Rattle.insert.specs.Wiring.{gain_calls, patches, send_calls, identity, dry_gain, wet_gain, dry_weights, patched_calls, switch_calls, out_calls, sum_calls, sent_calls};
+ghost use Rattle.insert.specs.Wiring.{gain_calls, patches, send_calls, identity, dry_gain, dry_weights, patched_calls, switch_calls, out_calls, sum_calls, sent_calls};
 ghost use Rattle.insert.specs.Insert.{max_channel};
 ghost use Rattle.insert_calls.specs.Loops.{wired, SendFits, ReturnFits};
 
@@ -22,23 +22,11 @@ const NOT_HEARD: f32 = 0.0;
 // The safe of an insert's nodes.
 const SAFE: u32 = 0;
 
-// The gain of the dry and of the wet path.
-fn dry_gain(bypass: bool) -> f32
-    ensures { result ≡ dry_gain bypass }
+// The gain of a path: at bypass the dry one is heard, else the wet one.
+fn path_gain(heard: bool) -> f32
+    ensures { result ≡ dry_gain heard }
 {
-    if bypass {
-        return HEARD;
-    }
-    NOT_HEARD
-}
-
-fn wet_gain(bypass: bool) -> f32
-    ensures { result ≡ wet_gain bypass }
-{
-    if bypass {
-        return NOT_HEARD;
-    }
-    HEARD
+    if heard { HEARD } else { NOT_HEARD }
 }
 
 // The k-th run of n fresh buffers. Requires at most 12 channels, one of six runs, and room for all.
@@ -54,7 +42,7 @@ pub fn fresh(before: Plan, n: usize, k: usize) -> Span
 
 // A Gain with its own node, into fresh buffers. Requires at most 12 channels.
 fn add_gain(
-    plan: Plan,
+    builder: &mut PlanBuilder,
     id: u32,
     gain: f32,
     ramp: u32,
@@ -65,9 +53,9 @@ fn add_gain(
     floats: &mut [f32],
     words: &mut [u32],
     steps: &mut [u32],
-) -> Plan
+)
     requires { dst.len ≤ 12 }
-    ensures { (co : List Float) → builder_state result indices.new co floats.new words.new steps.new ≡ wired (builder_state plan indices.old co floats.old words.old steps.old) (gain_calls id gain ramp number src dst) }
+    ensures { (co : List Float) → builder_state builder.new.plan indices.new co floats.new words.new steps.new ≡ wired (builder_state builder.old.plan indices.old co floats.old words.old steps.old) (gain_calls id gain ramp number src dst) }
 {
     let values = [gain; Format::MAX_CHANNELS];
     let n = dst.len as usize;
@@ -79,33 +67,32 @@ fn add_gain(
         dst.start,
         dst.len,
     ];
-    let noded = PlanBuilder::node(plan, id, &values[..n], ramp, SAFE, floats, words);
-    let one = noded.plan;
-    let buffered = PlanBuilder::buffers(one, n, indices);
-    let two = buffered.plan;
-    let stepped = PlanBuilder::step(two, &record[..], steps);
-    stepped.plan
+    let _ = builder.node(id, &values[..n], ramp, SAFE, floats, words);
+    let _ = builder.buffers(n, indices);
+    let _ = builder.step(&record[..], steps);
 }
 
 // n channels of an input, from one on, each to a buffer. Requires channels and buffers whose numbers four bytes hold.
-fn add_patches(plan: Plan, input: u32, channel: u32, dst: u32, n: u32, steps: &mut [u32]) -> Plan
+fn add_patches(
+    builder: &mut PlanBuilder,
+    input: u32,
+    channel: u32,
+    dst: u32,
+    n: u32,
+    steps: &mut [u32],
+)
     requires { (channel + n ≤ max_channel) × (dst + n ≤ max_channel) }
-    ensures { (ix : List ℕ) (co fl : List Float) (wo : List ℕ) → builder_state result ix co fl wo steps.new ≡ wired (builder_state plan ix co fl wo steps.old) (patches input channel dst n) }
+    ensures { (ix : List ℕ) (co fl : List Float) (wo : List ℕ) → builder_state builder.new.plan ix co fl wo steps.new ≡ wired (builder_state builder.old.plan ix co fl wo steps.old) (patches input channel dst n) }
 {
-    let mut grown = plan;
-    let mut k = 0;
-    while k < n {
+    for k in 0..n {
         let record = [Step::PATCH_MAP, input, channel + k, dst + k];
-        let stepped = PlanBuilder::step(grown, &record[..], steps);
-        grown = stepped.plan;
-        k += 1;
+        let _ = builder.step(&record[..], steps);
     }
-    grown
 }
 
 // A Send of the gain 1 with its own node.
 fn add_send(
-    plan: Plan,
+    builder: &mut PlanBuilder,
     id: u32,
     ramp: u32,
     number: u32,
@@ -115,8 +102,8 @@ fn add_send(
     floats: &mut [f32],
     words: &mut [u32],
     steps: &mut [u32],
-) -> Plan
-    ensures { (ix : List ℕ) (co : List Float) → builder_state result ix co floats.new words.new steps.new ≡ wired (builder_state plan ix co floats.old words.old steps.old) (send_calls id ramp number src dst weights) }
+)
+    ensures { (ix : List ℕ) (co : List Float) → builder_state builder.new.plan ix co floats.new words.new steps.new ≡ wired (builder_state builder.old.plan ix co floats.old words.old steps.old) (send_calls id ramp number src dst weights) }
 {
     let values = [1.0];
     let record = [
@@ -129,44 +116,37 @@ fn add_send(
         weights.start,
         weights.len,
     ];
-    let noded = PlanBuilder::node(plan, id, &values[..], ramp, SAFE, floats, words);
-    let one = noded.plan;
-    let stepped = PlanBuilder::step(one, &record[..], steps);
-    stepped.plan
-}
-
-// A matrix of at most 12 by 12.
-#[derive(Clone, Copy)]
-struct Square {
-    entries: [f32; 144],
+    let _ = builder.node(id, &values[..], ramp, SAFE, floats, words);
+    let _ = builder.step(&record[..], steps);
 }
 
 // The identity fold of n channels, in the first n * n places. Requires at most 12.
-fn identity(n: usize) -> Square
+fn identity(n: usize) -> [f32; 144]
     requires { n ≤ 12 }
-    ensures { (length result.entries ≡ 144) × (take (n * n) result.entries ≡ identity n) }
+    ensures size { length result ≡ 144 }
+    ensures entries { take (n * n) result ≡ identity n }
 {
     let mut entries = [0.0; 144];
-    let mut k = 0;
-    while k < n {
+    for k in 0..n {
         entries[k * n + k] = 1.0;
-        k += 1;
     }
-    Square { entries }
+    entries
 }
 
 // The send gain and the Output. Requires room for the send.
+#[tactic(auto, using(format::proofs::Labels::channels_le))]
 pub fn add_sent(
-    before: Plan,
+    builder: &mut PlanBuilder,
     insert: InsertPoint,
     indices: &mut [u32],
     floats: &mut [f32],
     words: &mut [u32],
     steps: &mut [u32],
-) -> Plan
-    requires { SendFits before (channels insert.format) }
-    ensures { (co : List Float) → builder_state result indices.new co floats.new words.new steps.new ≡ wired (builder_state before indices.old co floats.old words.old steps.old) (sent_calls before insert) }
+)
+    requires { SendFits builder.old.plan (channels insert.format) }
+    ensures { (co : List Float) → builder_state builder.new.plan indices.new co floats.new words.new steps.new ≡ wired (builder_state builder.old.plan indices.old co floats.old words.old steps.old) (sent_calls builder.old.plan insert) }
 {
+    let before = builder.plan;
     let n = Format::channels(insert.format);
     let send = Span {
         start: before.indices as u32,
@@ -175,8 +155,8 @@ pub fn add_sent(
     let ids = insert.ids;
     let src = insert.src;
     let number = before.nodes as u32;
-    let sent = add_gain(
-        before,
+    add_gain(
+        builder,
         ids.send,
         insert.gain,
         insert.ramp,
@@ -189,22 +169,22 @@ pub fn add_sent(
         steps,
     );
     let record = [Step::OUTPUT_MAP, send.start, send.len, insert.slot];
-    let stepped = PlanBuilder::step(sent, &record[..], steps);
-    stepped.plan
+    let _ = builder.step(&record[..], steps);
 }
 
 // The patched channels and the return gain. Requires room for the insert.
+#[tactic(auto, using(format::proofs::Labels::channels_le))]
 pub fn add_patched(
-    plan: Plan,
+    builder: &mut PlanBuilder,
     before: Plan,
     insert: InsertPoint,
     indices: &mut [u32],
     floats: &mut [f32],
     words: &mut [u32],
     steps: &mut [u32],
-) -> Plan
+)
     requires { ReturnFits before insert }
-    ensures { (co : List Float) → builder_state result indices.new co floats.new words.new steps.new ≡ wired (builder_state plan indices.old co floats.old words.old steps.old) (patched_calls before insert) }
+    ensures { (co : List Float) → builder_state builder.new.plan indices.new co floats.new words.new steps.new ≡ wired (builder_state builder.old.plan indices.old co floats.old words.old steps.old) (patched_calls before insert) }
 {
     let n = Format::channels(insert.format);
     let back = insert.back;
@@ -212,10 +192,9 @@ pub fn add_patched(
     let raw = fresh(before, n, 1);
     let ret = fresh(before, n, 2);
     let number = before.nodes as u32 + 1;
-    let buffered = PlanBuilder::buffers(plan, n, indices);
-    let one = buffered.plan;
-    let two = add_patches(
-        one,
+    let _ = builder.buffers(n, indices);
+    add_patches(
+        builder,
         back.input - 1,
         back.channel - 1,
         (before.buffers + n) as u32,
@@ -223,7 +202,7 @@ pub fn add_patched(
         steps,
     );
     add_gain(
-        two,
+        builder,
         ids.ret,
         back.gain,
         insert.ramp,
@@ -234,21 +213,22 @@ pub fn add_patched(
         floats,
         words,
         steps,
-    )
+    );
 }
 
 // The dry and the wet gain. Requires room for the insert.
+#[tactic(auto, using(format::proofs::Labels::channels_le))]
 pub fn add_switch(
-    plan: Plan,
+    builder: &mut PlanBuilder,
     before: Plan,
     insert: InsertPoint,
     indices: &mut [u32],
     floats: &mut [f32],
     words: &mut [u32],
     steps: &mut [u32],
-) -> Plan
+)
     requires { ReturnFits before insert }
-    ensures { (co : List Float) → builder_state result indices.new co floats.new words.new steps.new ≡ wired (builder_state plan indices.old co floats.old words.old steps.old) (switch_calls before insert) }
+    ensures { (co : List Float) → builder_state builder.new.plan indices.new co floats.new words.new steps.new ≡ wired (builder_state builder.old.plan indices.old co floats.old words.old steps.old) (switch_calls before insert) }
 {
     let n = Format::channels(insert.format);
     let back = insert.back;
@@ -258,10 +238,10 @@ pub fn add_switch(
     let ret = fresh(before, n, 2);
     let dry = fresh(before, n, 3);
     let wet = fresh(before, n, 4);
-    let one = add_gain(
-        plan,
+    add_gain(
+        builder,
         ids.dry,
-        dry_gain(back.bypass),
+        path_gain(back.bypass),
         insert.ramp,
         number + 2,
         src,
@@ -272,9 +252,9 @@ pub fn add_switch(
         steps,
     );
     add_gain(
-        one,
+        builder,
         ids.wet,
-        wet_gain(back.bypass),
+        path_gain(!back.bypass),
         insert.ramp,
         number + 3,
         ret,
@@ -283,33 +263,29 @@ pub fn add_switch(
         floats,
         words,
         steps,
-    )
+    );
 }
 
 // The insert's output, from silence, and the identity fold. Requires room for the insert.
+#[tactic(auto, using(format::proofs::Labels::channels_le))]
 pub fn add_out(
-    plan: Plan,
+    builder: &mut PlanBuilder,
     before: Plan,
     insert: InsertPoint,
     indices: &mut [u32],
     coefficients: &mut [f32],
     steps: &mut [u32],
-) -> Plan
+)
     requires { ReturnFits before insert }
-    ensures { (fl : List Float) (wo : List ℕ) → builder_state result indices.new coefficients.new fl wo steps.new ≡ wired (builder_state plan indices.old coefficients.old fl wo steps.old) (out_calls before insert) }
+    ensures { (fl : List Float) (wo : List ℕ) → builder_state builder.new.plan indices.new coefficients.new fl wo steps.new ≡ wired (builder_state builder.old.plan indices.old coefficients.old fl wo steps.old) (out_calls before insert) }
 {
     let n = Format::channels(insert.format);
     let out = fresh(before, n, 5);
     let record = [Step::CLEAR_MAP, out.start, out.len];
-    let square = identity(n);
-    let entries = square.entries;
-    let count = n * n;
-    let buffered = PlanBuilder::buffers(plan, n, indices);
-    let one = buffered.plan;
-    let cleared = PlanBuilder::step(one, &record[..], steps);
-    let two = cleared.plan;
-    let weighed = PlanBuilder::coefficients(two, &entries[..count], coefficients);
-    weighed.plan
+    let entries = identity(n);
+    let _ = builder.buffers(n, indices);
+    let _ = builder.step(&record[..], steps);
+    let _ = builder.coefficients(&entries[..n * n], coefficients);
 }
 
 // The weights of the dry Send: none where the source span is longer than the format's channels, so that the plan check finds it. Requires room for the insert.
@@ -328,16 +304,17 @@ fn dry_weights(before: Plan, insert: InsertPoint) -> Span
 }
 
 // The two Sends. Requires room for the insert.
+#[tactic(auto, using(format::proofs::Labels::channels_le))]
 pub fn add_sum(
-    plan: Plan,
+    builder: &mut PlanBuilder,
     before: Plan,
     insert: InsertPoint,
     floats: &mut [f32],
     words: &mut [u32],
     steps: &mut [u32],
-) -> Plan
+)
     requires { ReturnFits before insert }
-    ensures { (ix : List ℕ) (co : List Float) → builder_state result ix co floats.new words.new steps.new ≡ wired (builder_state plan ix co floats.old words.old steps.old) (sum_calls before insert) }
+    ensures { (ix : List ℕ) (co : List Float) → builder_state builder.new.plan ix co floats.new words.new steps.new ≡ wired (builder_state builder.old.plan ix co floats.old words.old steps.old) (sum_calls before insert) }
 {
     let n = Format::channels(insert.format);
     let ids = insert.ids;
@@ -349,8 +326,8 @@ pub fn add_sum(
         start: before.coefficients as u32,
         len: (n * n) as u32,
     };
-    let one = add_send(
-        plan,
+    add_send(
+        builder,
         ids.dryin,
         insert.ramp,
         number + 4,
@@ -362,7 +339,7 @@ pub fn add_sum(
         steps,
     );
     add_send(
-        one,
+        builder,
         ids.wetin,
         insert.ramp,
         number + 5,
@@ -372,5 +349,5 @@ pub fn add_sum(
         floats,
         words,
         steps,
-    )
+    );
 }

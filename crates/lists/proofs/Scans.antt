@@ -4,15 +4,23 @@ use mathlib.Core.Path.{◌≡◌, refl, sym, ap, ◌∙◌}
 use mathlib.Core.Bool.{Bool, true, false, ◌||◌}
 use mathlib.Core.List.{List, [], ◌∷◌}
 use mathlib.Core.Logic.{⊎_elim}
-use Prim.Native.Nat.{ℕ, zero, suc, ◌+◌, ◌-◌, ◌<◌}
+use Prim.Native.Nat.{ℕ, zero, suc, ◌+◌, ◌-◌, ◌<◌, ◌≤◌}
 use native.Mathlib.Nat.{le_of_suc-le-suc, not-suc-le-zero, eq-or-lt_of_le}
 use native.Mathlib.Numerals.{add-one}
 use native.Mathlib.Omega.{arith}
-use lib.ListN.{length, get_or, drop}
+use lib.ListN.{length, get_or, take, drop}
 use lib.Seq.{drop-cons, drop-length}
 use lib.Dec.{leb, eqb}
+use Rattle.std.specs.List.{list_any}
+use Rattle.std.proofs.lemmas.List.Folds.{list_any_more}
 use Rattle.lists.specs.Entries.{some_from, has, meet}
 use Rattle.lists.proofs.Bools.{or_none}
+
+or_swap : (a b : Bool) → (a || b) ≡ (b || a)
+or_swap true true = refl
+or_swap true false = refl
+or_swap false true = refl
+or_swap false false = refl
 
 -- ---- of the entries of a list, first to last
 pub record Listed (f : List ℕ → Bool) (t : ℕ → Bool) : Type 0 where
@@ -84,3 +92,16 @@ module _ {f t : ℕ → Bool} (c : Counted f t) where
   pub counted_none : (n : ℕ) → ((i : ℕ) → i < n → t i ≡ false) → f n ≡ false
   counted_none zero all = c.none
   counted_none (suc n) all = c.more n ∙ rw (all n (omega arith)) (counted_none n (λ (i : ℕ) (h : i < n). all i (omega arith)))
+
+  -- what `any` answers of the first n elements of a list, where its test of element i is t i
+  pub counted_any : {A : Type 0} (p : A → Bool) (xs : List A) (d : A) (n : ℕ) → n ≤ length xs → ((i : ℕ) → i < n → p (get_or xs i d) ≡ t i)
+      → list_any p (take n xs) ≡ f n
+  counted_any p xs d zero h each = sym c.none
+  counted_any p xs d (suc n) h each =
+      rw (← add-one)
+      (list_any_more p xs n d (omega arith)
+      ∙ or_swap (list_any p (take n xs)) (p (get_or xs n d))
+      ∙ ap (λ (b : Bool). b || list_any p (take n xs)) (each n (omega arith))
+      ∙ ap (λ (b : Bool). t n || b) (counted_any p xs d n (omega arith) (λ (i : ℕ) (l : i < n). each i (omega arith)))
+      ∙ sym (c.more n)
+      ∙ ap f (sym (add-one n)))

@@ -97,7 +97,7 @@ module _ {A : Type 0} where
   sets_front l vs h = sets-eq vs l 0 (omega arith) ∙ ap (λ (k : ℕ). vs ++ drop k l) (zero-add (length vs))
 
   -- ---- a part before the stores, after them, and just where they are
-  part_swap : (k n : ℕ) (l : List A) → take n (drop k l) ≡ drop k (take (k + n) l)
+  pub part_swap : (k n : ℕ) (l : List A) → take n (drop k l) ≡ drop k (take (k + n) l)
   part_swap zero n l = rw zero-add
   part_swap (suc k) n [] = rw (take-nil n, take-nil (suc k + n))
   part_swap (suc k) n (x ∷ l) = rw suc-add (part_swap k n l)

@@ -17,7 +17,5 @@ pub fn put_floats(values: &[f32], at: usize, area: &mut [f32])
     requires { at + length values.now ≤ length area.old }
     ensures { area.new ≡ sets area.old at values.now }
 {
-    for i in 0..values.len() {
-        area[at + i] = values[i];
-    }
+    area[at..at + values.len()].copy_from_slice(values);
 }

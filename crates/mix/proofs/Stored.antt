@@ -11,6 +11,9 @@ use native.Mathlib.Omega.{arith}
 use lib.ListN.{length, get_or, take, drop, set, length-append, length-take, length-drop, drop_of_length-le, get_or-append}
 use lib.Seq.{get_or_at, set-get_or, sets, sets-eq, drop-drop}
 use lib.Ieee.{Float, nan}
+use Rattle.std.proofs.Math.Seq.{take-suc}
+use Rattle.std.proofs.Math.ListN.{replicate}
+use Rattle.std.proofs.lemmas.List.{replicate-append-replicate}
 use borrow.Rule.Slice.PartMut.{put_mid, mid_of}
 use Rattle.lists.proofs.Stores.{sets_append, get_d_sets, get_d_sets_at}
 use Rattle.mix.specs.Samples.{sampled}
@@ -46,6 +49,21 @@ sampled_add n (suc m) f =
     rw add-suc
     (ap (λ (l : List Float). l ++ (f (n + m) ∷ [])) (sampled_add n m f)
     ∙ append_assoc (sampled n f) (sampled m (λ i. f (n + i))) (f (n + m) ∷ []))
+
+-- the start of a list, and one value over and over
+pub taken_sampled : (n : ℕ) (x : List Float) → n ≤ length x → take n x ≡ sampled n (λ i. get_or x i nan)
+unfolding sampled
+taken_sampled zero x h = refl
+taken_sampled (suc n) x h =
+    take-suc x n nan (omega arith)
+    ∙ ap (λ (l : List Float). l ++ (get_or x n nan ∷ [])) (taken_sampled n x (omega arith))
+
+pub repeated_sampled : (n : ℕ) (v : Float) → replicate n v ≡ sampled n (λ i. v)
+unfolding sampled
+repeated_sampled zero v = refl
+repeated_sampled (suc n) v =
+    sym (rw add-one at (replicate-append-replicate n 1 v))
+    ∙ ap (λ (l : List Float). l ++ (v ∷ [])) (repeated_sampled n v)
 
 -- ---- a run of stores, and the next
 module _ (F : ℕ → Float) (a : List Float) (to : ℕ) where

@@ -15,6 +15,10 @@ whole_piece = 16
 
 -- ---- one sample, with nothing skipped
 
+-- what is done to a sample, by the factor of a gain there
+abbrev pub by_gain : (Float → Float → Float → Float) → Gain → ℕ → Float → Float → Float
+by_gain mixed g k x y = mixed x y (factor g k)
+
 abbrev pub plus_scaled : Gain → ℕ → Float → Float → Float
 plus_scaled g k x y = add binary32 y (mul binary32 x (factor g k))
 

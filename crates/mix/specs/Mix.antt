@@ -134,9 +134,3 @@ pub record Buffers (block : ℕ) (src dst : List ℕ) (area : List Float) : Type
 -- those of a list that Gain uses, given the other list: the first min(src, dst)
 abbrev pub used : List ℕ → List ℕ → List ℕ
 used list other = take (length other) list
-
--- a node's rows, with at least n values each
-pub record Values (n : ℕ) (cur step target : List Float) : Type 0 where
-  pub curs : n ≤ length cur
-  pub steps : n ≤ length step
-  pub targets : n ≤ length target

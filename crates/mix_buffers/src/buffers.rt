@@ -29,19 +29,19 @@ pub fn clear(area: &mut [f32], block: usize, dst: &[u32])
     requires { AllInside block dst.now area.old }
     ensures { area.new ≡ cleared block dst.now area.old }
 {
-    for c in 0..dst.len() {
-        fill_buffer(area, block, dst[c] as usize);
+    for d in dst {
+        fill_buffer(area, block, *d as usize);
     }
 }
 
 // The buffers of src, one after the other, into the output from place `at` on. Requires that they lie within the area, and room in the output.
 pub fn append(area: &[f32], block: usize, src: &[u32], output: &mut [f32], at: usize)
-    requires all_inside { AllInside block src.now area.now }
-    requires block_in_bounds { at + length src.now * block ≤ length output.old }
+    requires sources { AllInside block src.now area.now }
+    requires room { at + length src.now * block ≤ length output.old }
     ensures { output.new ≡ appended block area.now src.now at output.old }
 {
-    for c in 0..src.len() {
-        let p = src[c] as usize * block;
+    for (c, s) in src.iter().enumerate() {
+        let p = *s as usize * block;
         let q = at + c * block;
         copy(&area[p..p + block], &mut output[q..q + block]);
     }

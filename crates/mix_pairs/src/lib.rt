@@ -5,150 +5,96 @@
 
 ghost use Rattle.std.specs.Prelude.{◌≡◌};
 ghost use Rattle.node.specs.declared.Gain.TheVariants as gain;
-ghost use Rattle.mix.specs.Samples.{sample, put};
 ghost use Rattle.mix.specs.Mix.{Pair};
-ghost use Rattle.mix.specs.Loops.{plus_scaled, plus_weighted, two_at, two_in, Piece, PartsApart};
+ghost use Rattle.mix.specs.Loops.{by_gain, plus_scaled, two_at, two_in, Piece, PartsApart};
 
-use mix_samples::{PIECE, add_samples, later, load, store, weigh_samples};
-use node::Gain;
+use mix_samples::{AddAtRest, Load, Mixing, PIECE, later, mix_samples, store};
 
-// d += s × a, then d += z × b, for m samples, from sample k on. Requires at most a piece of a block, with all parts within the area.
-fn add_two_piece(
-    area: &mut [f32],
-    from: usize,
-    other: usize,
-    to: usize,
-    m: usize,
-    k: usize,
-    a: f32,
-    b: f32,
-)
-    requires piece { Piece from to m k area.old }
-    requires piece_2 { Piece other to m k area.old }
-    ensures { area.new ≡ two_at (plus_scaled (gain.Rest a)) (plus_scaled (gain.Rest b)) from other to m k area.old }
-{
-    let mut t = [0.0f32; PIECE];
-    load(&area[to..to + m], &mut t);
-    add_samples(&area[from..from + m], &mut t, k, Gain::Rest(a));
-    add_samples(&area[other..other + m], &mut t, k, Gain::Rest(b));
-    store(&t, area, to, m);
-}
-
-// The same, one sample after another in the area itself. Requires as `add_two_piece`, and no source that overlaps the destination.
-fn add_two_last(
-    area: &mut [f32],
-    from: usize,
-    other: usize,
-    to: usize,
-    m: usize,
-    k: usize,
-    a: f32,
-    b: f32,
-)
-    requires piece { Piece from to m k area.old × PartsApart from to m }
-    requires piece_2 { Piece other to m k area.old × PartsApart other to m }
-    ensures { area.new ≡ two_at (plus_scaled (gain.Rest a)) (plus_scaled (gain.Rest b)) from other to m k area.old }
-{
-    for i in 0..m {
-        area[to + i] = area[to + i] + area[from + i] * a + area[other + i] * b;
-    }
-}
-
-// d += s × a, then d += z × b, in one pass. Requires two buffers other than d, all within the area, and a block that is not too long.
-pub fn add_two(area: &mut [f32], block: usize, s: usize, z: usize, d: usize, a: f32, b: f32)
-    requires pair { Pair block s d area.old }
-    requires pair_2 { Pair block z d area.old }
-    ensures { area.new ≡ put block d (λ k. plus_scaled (gain.Rest b) k (sample block area.old z k) (plus_scaled (gain.Rest a) k (sample block area.old s k) (sample block area.old d k))) area.old }
-{
-    let from = s * block;
-    let other = z * block;
-    let to = d * block;
-    let e = block / PIECE;
-    for i in 0..e {
-        add_two_piece(
-            area,
-            from + PIECE * i,
-            other + PIECE * i,
-            to + PIECE * i,
-            PIECE,
-            PIECE * i,
-            a,
-            b,
-        );
-    }
-    let r = PIECE * e;
-    if r == block {
-        return;
-    }
-    add_two_last(area, from + r, other + r, to + r, block - r, r, a, b);
-}
-
-// d += s × w × gain, then d += z × v × gain, for m samples. Inlined, so that the gain is told apart once for all pieces. Requires as
-// `add_two_piece`.
+// Mixes s, then z, into d, m samples from sample k on. Inlined, so that a gain is told apart once for all pieces. Requires at most a piece of a block,
+// with all parts within the area.
 #[inline(always)]
-fn weigh_two_piece(
+fn two_piece<M: Mixing, N: Mixing>(
     area: &mut [f32],
     from: usize,
     other: usize,
     to: usize,
     m: usize,
     k: usize,
-    w: f32,
-    v: f32,
-    g: Gain,
+    by: M,
+    then: N,
 )
-    requires piece { Piece from to m k area.old }
-    requires piece_2 { Piece other to m k area.old }
-    ensures { area.new ≡ two_at (plus_weighted w g) (plus_weighted v g) from other to m k area.old }
+    requires from { Piece from to m k area.old }
+    requires other { Piece other to m k area.old }
+    ensures { area.new ≡ two_at (by_gain (M.mixed by) (M.gain by)) (by_gain (N.mixed then) (N.gain then)) from other to m k area.old }
 {
     let mut t = [0.0f32; PIECE];
-    load(&area[to..to + m], &mut t);
-    let h = later(g, k as u32);
-    weigh_samples(&area[from..from + m], &mut t, k, w, h);
-    weigh_samples(&area[other..other + m], &mut t, k, v, h);
+    mix_samples(&area[to..to + m], &mut t, 0, Load);
+    mix_samples(&area[from..from + m], &mut t, k, by);
+    mix_samples(&area[other..other + m], &mut t, k, then);
     store(&t, area, to, m);
 }
 
-// d += s × w × gain, then d += z × v × gain, in one pass. Requires as `add_two`.
-pub fn weigh_two(
+// The same, one sample after another in the area itself. Requires as `two_piece`, and no source that overlaps the destination.
+fn two_last<M: Mixing, N: Mixing>(
+    area: &mut [f32],
+    from: usize,
+    other: usize,
+    to: usize,
+    m: usize,
+    k: usize,
+    by: M,
+    then: N,
+)
+    requires from { Piece from to m k area.old × PartsApart from to m }
+    requires other { Piece other to m k area.old × PartsApart other to m }
+    ensures { area.new ≡ two_at (by_gain (M.mixed by) (M.gain by)) (by_gain (N.mixed then) (N.gain then)) from other to m k area.old }
+{
+    let g = later(by.gain(), k as u32);
+    let h = later(then.gain(), k as u32);
+    let first = g.on_ramp(k + m);
+    let second = h.on_ramp(k + m);
+    for i in 0..m {
+        let v = g.factor((k + i) as u32, first);
+        let w = h.factor((k + i) as u32, second);
+        let y = by.mix(area[from + i], area[to + i], v);
+        area[to + i] = then.mix(area[other + i], y, w);
+    }
+}
+
+// Mixes s, then z, into d, in one pass. Requires two buffers other than d, all within the area, and a block that is not too long.
+pub fn two_into<M: Mixing, N: Mixing>(
     area: &mut [f32],
     block: usize,
     s: usize,
     z: usize,
     d: usize,
-    w: f32,
-    v: f32,
-    g: Gain,
+    by: M,
+    then: N,
 )
-    requires pair { Pair block s d area.old }
-    requires pair_2 { Pair block z d area.old }
-    ensures { area.new ≡ put block d (λ k. plus_weighted v g k (sample block area.old z k) (plus_weighted w g k (sample block area.old s k) (sample block area.old d k))) area.old }
+    requires s { Pair block s d area.old }
+    requires z { Pair block z d area.old }
+    ensures { area.new ≡ two_in (by_gain (M.mixed by) (M.gain by)) (by_gain (N.mixed then) (N.gain then)) block s z d area.old }
 {
     let from = s * block;
     let other = z * block;
     let to = d * block;
     let e = block / PIECE;
     for i in 0..e {
-        weigh_two_piece(
-            area,
-            from + PIECE * i,
-            other + PIECE * i,
-            to + PIECE * i,
-            PIECE,
-            PIECE * i,
-            w,
-            v,
-            g,
-        );
+        let k = PIECE * i;
+        two_piece(area, from + k, other + k, to + k, PIECE, k, by, then);
     }
     let r = PIECE * e;
     if r == block {
         return;
     }
-    weigh_two_piece(area, from + r, other + r, to + r, block - r, r, w, v, g);
+    if M::SHORT_PIECE {
+        two_piece(area, from + r, other + r, to + r, block - r, r, by, then);
+    } else {
+        two_last(area, from + r, other + r, to + r, block - r, r, by, then);
+    }
 }
 
-// d += s × a + z × b and e += s × f + z × h, term after term, for m samples, from sample k on. Requires as `add_two_last`, and a second destination
+// d += s × a + z × b and e += s × f + z × h, term after term, for m samples, from sample k on. Requires as `two_last`, and a second destination
 // that does not overlap the first.
 fn add_four_piece(
     area: &mut [f32],
@@ -163,24 +109,24 @@ fn add_four_piece(
     f: f32,
     h: f32,
 )
-    requires piece { Piece from to m k area.old × PartsApart from to m }
-    requires piece_2 { Piece other to m k area.old × PartsApart other to m }
-    requires piece_3 { Piece next to m k area.old × PartsApart next to m }
+    requires from { Piece from to m k area.old × PartsApart from to m }
+    requires other { Piece other to m k area.old × PartsApart other to m }
+    requires next { Piece next to m k area.old × PartsApart next to m }
     ensures { area.new ≡ two_at (plus_scaled (gain.Rest f)) (plus_scaled (gain.Rest h)) from other next m k (two_at (plus_scaled (gain.Rest a)) (plus_scaled (gain.Rest b)) from other to m k area.old) }
 {
     let mut t = [0.0f32; PIECE];
     let mut u = [0.0f32; PIECE];
-    load(&area[to..to + m], &mut t);
-    load(&area[next..next + m], &mut u);
-    add_samples(&area[from..from + m], &mut t, k, Gain::Rest(a));
-    add_samples(&area[other..other + m], &mut t, k, Gain::Rest(b));
-    add_samples(&area[from..from + m], &mut u, k, Gain::Rest(f));
-    add_samples(&area[other..other + m], &mut u, k, Gain::Rest(h));
+    mix_samples(&area[to..to + m], &mut t, 0, Load);
+    mix_samples(&area[next..next + m], &mut u, 0, Load);
+    mix_samples(&area[from..from + m], &mut t, k, AddAtRest(a));
+    mix_samples(&area[other..other + m], &mut t, k, AddAtRest(b));
+    mix_samples(&area[from..from + m], &mut u, k, AddAtRest(f));
+    mix_samples(&area[other..other + m], &mut u, k, AddAtRest(h));
     store(&t, area, to, m);
     store(&u, area, next, m);
 }
 
-// d += s × a, then d += z × b; e += s × f, then e += z × h; in one pass. Requires as `add_two` for d and for e, and that these two differ.
+// d += s × a, then d += z × b; e += s × f, then e += z × h; in one pass. Requires as `two_into` for d and for e, and that these two differ.
 pub fn add_four(
     area: &mut [f32],
     block: usize,
@@ -193,9 +139,9 @@ pub fn add_four(
     f: f32,
     h: f32,
 )
-    requires pair { Pair block s d area.old × Pair block z d area.old }
-    requires pair_2 { Pair block s e area.old × Pair block z e area.old }
-    requires fact { e ≡ d → ⊥ }
+    requires d { Pair block s d area.old × Pair block z d area.old }
+    requires e { Pair block s e area.old × Pair block z e area.old }
+    requires differ { e ≡ d → ⊥ }
     ensures { area.new ≡ two_in (plus_scaled (gain.Rest f)) (plus_scaled (gain.Rest h)) block s z e (two_in (plus_scaled (gain.Rest a)) (plus_scaled (gain.Rest b)) block s z d area.old) }
 {
     let from = s * block;
@@ -222,6 +168,24 @@ pub fn add_four(
     if r == block {
         return;
     }
-    add_two_last(area, from + r, other + r, to + r, block - r, r, a, b);
-    add_two_last(area, from + r, other + r, next + r, block - r, r, f, h);
+    two_last(
+        area,
+        from + r,
+        other + r,
+        to + r,
+        block - r,
+        r,
+        AddAtRest(a),
+        AddAtRest(b),
+    );
+    two_last(
+        area,
+        from + r,
+        other + r,
+        next + r,
+        block - r,
+        r,
+        AddAtRest(f),
+        AddAtRest(h),
+    );
 }

@@ -2,8 +2,8 @@
 // All of it is for the crates above and not the interface: a function that has a `requires` says in its comment what it takes.
 #![tactic(auto)]
 
+mod mixing;
 mod samples;
 
-pub use samples::{
-    PIECE, add_samples, copy, fill, is_silent, later, load, scale_samples, store, weigh_samples,
-};
+pub use mixing::{Add, AddAtRest, Load, Mixing, Scale, StartAtRest, Weigh};
+pub use samples::{PIECE, copy, fill, is_silent, later, mix_samples, store};

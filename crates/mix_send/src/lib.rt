@@ -7,40 +7,48 @@ ghost use Rattle.node.specs.declared.Gain.TheVariants as gain;
 ghost use Rattle.mix.specs.Mix.{is_zero, silent, send_in, weighs, sends, Pair, Row, Buffers};
 ghost use Rattle.mix.specs.Loops.{Four};
 
-use mix_pairs::{add_four, add_two, weigh_two};
-use mix_pieces::{add_into, weigh_into};
-use mix_samples::is_silent;
+use mix_pairs::{add_four, two_into};
+use mix_pieces::mix_into;
+use mix_samples::{AddAtRest, Weigh, is_silent};
 use node::Gain;
 
 // Buffer s into buffer d by a weight; a weight of 0 is skipped. At rest the weight and the target are one factor, ramping they are two.
-// Requires as `scale_into`, and a gain that is not at rest at 0.
+// Requires as `mix_into`, and a gain that is not at rest at 0.
 fn send_into(area: &mut [f32], block: usize, s: usize, d: usize, w: f32, g: Gain)
     requires pair { Pair block s d area.old }
-    requires g_value { silent g ≡ false }
+    requires sounds { silent g ≡ false }
     ensures { area.new ≡ send_in block g w s d area.old }
 {
     if w == 0.0 {
         return;
     }
     match g {
-        Gain::Rest(t) => add_into(area, block, s, d, w * t),
+        Gain::Rest(t) => mix_into(area, block, s, d, AddAtRest(w * t)),
         Gain::Moving(cur, step, t, left) => {
-            weigh_into(area, block, s, d, w, Gain::Moving(cur, step, t, left))
+            mix_into(
+                area,
+                block,
+                s,
+                d,
+                Weigh(w, Gain::Moving(cur, step, t, left)),
+            )
         }
     }
 }
 
 // Buffers s and z into buffer d in one pass, by two weights that are not 0. Requires as `send_into`, for both sources.
 fn send_two(area: &mut [f32], block: usize, s: usize, z: usize, d: usize, w: f32, v: f32, g: Gain)
-    requires pair { Pair block s d area.old }
-    requires pair_2 { Pair block z d area.old }
-    requires w_value { (is_zero w ≡ false) × (is_zero v ≡ false) × (silent g ≡ false) }
+    requires s { Pair block s d area.old }
+    requires z { Pair block z d area.old }
+    requires weighted { (is_zero w ≡ false) × (is_zero v ≡ false) }
+    requires sounds { silent g ≡ false }
     ensures { area.new ≡ send_in block g v z d (send_in block g w s d area.old) }
 {
     match g {
-        Gain::Rest(t) => add_two(area, block, s, z, d, w * t, v * t),
+        Gain::Rest(t) => two_into(area, block, s, z, d, AddAtRest(w * t), AddAtRest(v * t)),
         Gain::Moving(cur, step, t, left) => {
-            weigh_two(area, block, s, z, d, w, v, Gain::Moving(cur, step, t, left))
+            let g = Gain::Moving(cur, step, t, left);
+            two_into(area, block, s, z, d, Weigh(w, g), Weigh(v, g));
         }
     }
 }
@@ -57,7 +65,8 @@ fn send_row(
     g: Gain,
 )
     requires row { Row block src.now d area.old }
-    requires src_in_bounds { (at + length src.now ≤ length weights.now) × (silent g ≡ false) }
+    requires weights { at + length src.now ≤ length weights.now }
+    requires sounds { silent g ≡ false }
     ensures { area.new ≡ weighs block g weights.now at src.now d area.old }
 {
     if src.len() == 2 {
@@ -68,9 +77,8 @@ fn send_row(
             return;
         }
     }
-    for c in 0..src.len() {
-        let s = src[c] as usize;
-        send_into(area, block, s, d, weights[at + c], g);
+    for (c, s) in src.iter().enumerate() {
+        send_into(area, block, *s as usize, d, weights[at + c], g);
     }
 }
 
@@ -93,7 +101,8 @@ fn is_four(src: &[u32], dst: &[u32], weights: &[f32]) -> bool
 // Two rows and two columns at rest, in one pass. Requires as `send`, what `is_four` tests, and a target that is not 0.
 fn send_four(area: &mut [f32], block: usize, src: &[u32], dst: &[u32], weights: &[f32], t: f32)
     requires buffers { Buffers block src.now dst.now area.old }
-    requires four { Four src.now dst.now weights.now × (silent (gain.Rest t) ≡ false) }
+    requires four { Four src.now dst.now weights.now }
+    requires sounds { silent (gain.Rest t) ≡ false }
     ensures { area.new ≡ sends block (gain.Rest t) weights.now 0 src.now dst.now area.old }
 {
     let s = src[0] as usize;
@@ -110,7 +119,8 @@ fn send_four(area: &mut [f32], block: usize, src: &[u32], dst: &[u32], weights: 
 // The rows of a Send; four weights at rest, as `is_four` has them, go in one pass. Requires as `send`, and a gain that is not at rest at 0.
 fn send_rows(area: &mut [f32], block: usize, src: &[u32], dst: &[u32], weights: &[f32], g: Gain)
     requires buffers { Buffers block src.now dst.now area.old }
-    requires src_in_bounds { (length dst.now * length src.now ≤ length weights.now) × (silent g ≡ false) }
+    requires weights { length dst.now * length src.now ≤ length weights.now }
+    requires sounds { silent g ≡ false }
     ensures { area.new ≡ sends block g weights.now 0 src.now dst.now area.old }
 {
     if is_four(src, dst, weights) {
@@ -120,9 +130,8 @@ fn send_rows(area: &mut [f32], block: usize, src: &[u32], dst: &[u32], weights: 
         }
     }
     let n = src.len();
-    for r in 0..dst.len() {
-        let d = dst[r] as usize;
-        send_row(area, block, src, d, weights, r * n, g);
+    for (r, d) in dst.iter().enumerate() {
+        send_row(area, block, src, *d as usize, weights, r * n, g);
     }
 }
 
@@ -130,7 +139,7 @@ fn send_rows(area: &mut [f32], block: usize, src: &[u32], dst: &[u32], weights: 
 // within the area, no source a destination; and a block that is not too long.
 pub fn send(area: &mut [f32], block: usize, src: &[u32], dst: &[u32], weights: &[f32], g: Gain)
     requires buffers { Buffers block src.now dst.now area.old }
-    requires src_in_bounds { length dst.now * length src.now ≤ length weights.now }
+    requires weights { length dst.now * length src.now ≤ length weights.now }
     ensures { area.new ≡ sends block g weights.now 0 src.now dst.now area.old }
 {
     if is_silent(g) {

@@ -18,10 +18,8 @@ use plan::{Plan, Span};
 pub extern "C" fn mixer_new(block: usize) -> PlanReply
     ensures { result ≡ plan_reply (empty_plan block) (new_answer block) }
 {
-    let made = PlanBuilder::new(block);
-    let plan = made.plan;
-    let answer = made.answer;
-    plan_reply(plan, answer)
+    let builder = PlanBuilder::empty(block);
+    plan_reply(builder.plan, PlanBuilder::new(block).map(|_| ()))
 }
 
 #[unsafe(no_mangle)]
@@ -29,10 +27,9 @@ pub extern "C" fn mixer_buffers(plan: Plan, n: usize, indices: &mut [u32]) -> Sp
     ensures reply { result ≡ span_reply (plan_after (buffers_answer unit_limits plan n (length indices.old)) plan (buffers_growth n)) (buffers_span unit_limits plan n (length indices.old)) }
     ensures indices { indices.new ≡ buffers_indices unit_limits plan n indices.old }
 {
-    let made = PlanBuilder::buffers(plan, n, indices);
-    let grown = made.plan;
-    let answer = made.answer;
-    span_reply(grown, answer)
+    let mut builder = PlanBuilder { plan };
+    let answer = builder.buffers(n, indices);
+    span_reply(builder.plan, answer)
 }
 
 #[unsafe(no_mangle)]
@@ -46,7 +43,8 @@ pub extern "C" fn mixer_first(span: Span, n: u32) -> Span
 pub extern "C" fn mixer_buffer(plan: Plan, span: Span, i: usize, indices: &[u32]) -> BufferReply
     ensures { result ≡ buffer_reply (buffer_number plan span i indices.now) }
 {
-    buffer_reply(PlanBuilder::buffer(plan, span, i, indices))
+    let builder = PlanBuilder { plan };
+    buffer_reply(builder.buffer(span, i, indices))
 }
 
 #[unsafe(no_mangle)]
@@ -58,10 +56,9 @@ pub extern "C" fn mixer_coefficients(
     ensures reply { result ≡ span_reply (plan_after (coefficients_answer unit_limits plan (length values.now) (length coefficients.old)) plan (coefficients_growth (length values.now))) (coefficients_span unit_limits plan (length values.now) (length coefficients.old)) }
     ensures coefficients { coefficients.new ≡ coefficients_area unit_limits plan values.now coefficients.old }
 {
-    let made = PlanBuilder::coefficients(plan, values, coefficients);
-    let grown = made.plan;
-    let answer = made.answer;
-    span_reply(grown, answer)
+    let mut builder = PlanBuilder { plan };
+    let answer = builder.coefficients(values, coefficients);
+    span_reply(builder.plan, answer)
 }
 
 #[unsafe(no_mangle)]
@@ -78,10 +75,9 @@ pub extern "C" fn mixer_node(
     ensures floats { node_floats.new ≡ node_floats_area unit_limits plan id values.now ramp safe node_floats.old node_words.old }
     ensures words { node_words.new ≡ node_words_area unit_limits plan id values.now ramp safe node_floats.old node_words.old }
 {
-    let made = PlanBuilder::node(plan, id, values, ramp, safe, node_floats, node_words);
-    let grown = made.plan;
-    let answer = made.answer;
-    node_reply(grown, answer)
+    let mut builder = PlanBuilder { plan };
+    let answer = builder.node(id, values, ramp, safe, node_floats, node_words);
+    node_reply(builder.plan, answer)
 }
 
 #[unsafe(no_mangle)]
@@ -89,10 +85,9 @@ pub extern "C" fn mixer_step(plan: Plan, record: &[u32], steps: &mut [u32]) -> P
     ensures reply { result ≡ plan_reply (plan_after (step_answer unit_limits plan «record».now (length steps.old)) plan (step_growth (record_length «record».now))) (step_answer unit_limits plan «record».now (length steps.old)) }
     ensures steps { steps.new ≡ step_area unit_limits plan «record».now steps.old }
 {
-    let made = PlanBuilder::step(plan, record, steps);
-    let grown = made.plan;
-    let answer = made.answer;
-    plan_reply(grown, answer)
+    let mut builder = PlanBuilder { plan };
+    let answer = builder.step(record, steps);
+    plan_reply(builder.plan, answer)
 }
 
 #[unsafe(no_mangle)]
@@ -112,8 +107,9 @@ pub extern "C" fn mixer_insert(
     ensures words { node_words.new ≡ (inserted unit_limits (builder_state plan indices.old coefficients.old node_floats.old node_words.old steps.old) insert).words }
     ensures steps { steps.new ≡ (inserted unit_limits (builder_state plan indices.old coefficients.old node_floats.old node_words.old steps.old) insert).steps }
 {
-    let made = insert_calls::insert(
-        plan,
+    let mut builder = PlanBuilder { plan };
+    let answer = insert_calls::insert(
+        &mut builder,
         insert,
         indices,
         coefficients,
@@ -121,9 +117,7 @@ pub extern "C" fn mixer_insert(
         node_words,
         steps,
     );
-    let grown = made.plan;
-    let answer = made.answer;
-    span_reply(grown, answer)
+    span_reply(builder.plan, answer)
 }
 
 #[unsafe(no_mangle)]
@@ -131,8 +125,6 @@ pub extern "C" fn mixer_finish(plan: Plan, buffers: &mut [f32]) -> PlanReply
     ensures reply { result ≡ plan_reply plan (finish_answer unit_limits plan (length buffers.old)) }
     ensures buffers { buffers.new ≡ finish_area unit_limits plan buffers.old }
 {
-    let made = PlanBuilder::finish(plan, buffers);
-    let finished = made.plan;
-    let answer = made.answer;
-    plan_reply(finished, answer)
+    let builder = PlanBuilder { plan };
+    plan_reply(plan, builder.finish(buffers))
 }

@@ -6,12 +6,12 @@ ghost use Rattle.input.specs.Input.{directory_bad};
 ghost use Rattle.setting.specs.Setting.{setting_answer, setting_floats, setting_words};
 ghost use Rattle.run.specs.Run.{given, state, processed, process_answer};
 ghost use Rattle.adoption.specs.Adoption.{lent, adoption_answer, adoption_floats, adoption_words};
-ghost use Rattle.mixer_replies.specs.Replies.{status_of, ran_reply};
+ghost use Rattle.mixer_replies.specs.Replies.{status_of, count_reply};
 ghost use Rattle.mixer.specs.Lookup.{lookup_reply, lookup_area};
 
-use mixer_replies::{CountReply, Status, counted, not_counted, ran_reply, status_of};
+use mixer_replies::{CountReply, Status, count_reply, status_of};
 use plan::Plan;
-use refusal::Refusal;
+use refusal::Reason;
 
 #[unsafe(no_mangle)]
 pub extern "C" fn mixer_check_plan(
@@ -66,13 +66,13 @@ pub extern "C" fn mixer_process(
     samples: &[f32],
     output: &mut [f32],
 ) -> CountReply
-    ensures reply { result ≡ ran_reply (process_answer (given plan indices.now coefficients.now steps.now directory.now samples.now) (state node_floats.old node_words.old buffers.old output.old 0)) }
+    ensures reply { result ≡ count_reply (process_answer (given plan indices.now coefficients.now steps.now directory.now samples.now) (state node_floats.old node_words.old buffers.old output.old 0)) }
     ensures floats { node_floats.new ≡ (processed (given plan indices.now coefficients.now steps.now directory.now samples.now) (state node_floats.old node_words.old buffers.old output.old 0)).floats }
     ensures words { node_words.new ≡ (processed (given plan indices.now coefficients.now steps.now directory.now samples.now) (state node_floats.old node_words.old buffers.old output.old 0)).words }
     ensures buffers { buffers.new ≡ (processed (given plan indices.now coefficients.now steps.now directory.now samples.now) (state node_floats.old node_words.old buffers.old output.old 0)).buffers }
     ensures output { output.new ≡ (processed (given plan indices.now coefficients.now steps.now directory.now samples.now) (state node_floats.old node_words.old buffers.old output.old 0)).output }
 {
-    ran_reply(run_process::process(
+    count_reply(run_process::process(
         plan,
         indices,
         coefficients,
@@ -100,10 +100,10 @@ pub extern "C" fn mixer_lookup(
 {
     let found = input::lookup(directory, samples, input, channel);
     if part.len() < found.len() {
-        return not_counted(Refusal::of(Refusal::SHORT_AREA));
+        return count_reply(Err(Reason::ShortArea.into()));
     }
     lists::put_floats(found, 0, part);
-    counted(found.len())
+    count_reply(Ok(found.len()))
 }
 
 #[unsafe(no_mangle)]

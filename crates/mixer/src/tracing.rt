@@ -1,9 +1,9 @@
 // The calls of crate `trace_calls`.
 ghost use Rattle.std.specs.Prelude.{◌≡◌, length};
 ghost use Rattle.trace.specs.Calls.{sources_answer, sources_area, all_answer, all_counts, all_lists, clean_answer};
-ghost use Rattle.mixer_replies.specs.Replies.{sources_reply, all_reply, clean_reply};
+ghost use Rattle.mixer_replies.specs.Replies.{count_reply, clean_reply};
 
-use mixer_replies::{CleanReply, CountReply, all_reply, clean_reply, sources_reply};
+use mixer_replies::{CleanReply, CountReply, clean_reply, count_reply};
 use plan::Plan;
 
 #[unsafe(no_mangle)]
@@ -15,10 +15,11 @@ pub extern "C" fn mixer_output_sources(
     steps: &[u32],
     list: &mut [u16],
 ) -> CountReply
-    ensures reply { result ≡ sources_reply (sources_answer plan slot indices.now node_words.now steps.now (length list.old)) }
+    ensures reply { result ≡ count_reply (sources_answer plan slot indices.now node_words.now steps.now (length list.old)) }
     ensures list { list.new ≡ sources_area plan slot indices.now node_words.now steps.now list.old }
 {
-    sources_reply(trace_calls::output_sources(plan, slot, indices, node_words, steps, list))
+    let answer = trace_calls::output_sources(plan, slot, indices, node_words, steps, list);
+    count_reply(answer.map(|n| n as usize))
 }
 
 #[unsafe(no_mangle)]
@@ -30,11 +31,12 @@ pub extern "C" fn mixer_all_sources(
     counts: &mut [u32],
     lists: &mut [u16],
 ) -> CountReply
-    ensures reply { result ≡ all_reply (all_answer plan indices.now node_words.now steps.now (length counts.old) (length lists.old)) }
+    ensures reply { result ≡ count_reply (all_answer plan indices.now node_words.now steps.now (length counts.old) (length lists.old)) }
     ensures counts { counts.new ≡ all_counts plan indices.now node_words.now steps.now counts.old (length lists.old) }
     ensures lists { lists.new ≡ all_lists plan indices.now node_words.now steps.now (length counts.old) lists.old }
 {
-    all_reply(trace_calls::all_sources(plan, indices, node_words, steps, counts, lists))
+    let answer = trace_calls::all_sources(plan, indices, node_words, steps, counts, lists);
+    count_reply(answer.map(|n| n as usize))
 }
 
 #[unsafe(no_mangle)]

@@ -3,14 +3,10 @@
 #![tactic(auto)]
 
 ghost use Rattle.std.specs.Prelude.{◌≡◌};
-ghost use Rattle.mixer_replies.specs.Replies.{accepted, refused, status_of, plan_reply, span_reply, node_reply, buffer_reply, counted, not_counted, ran_reply, sources_reply, all_reply, clean_reply, gains_reply, stereo_reply};
+ghost use Rattle.mixer_replies.specs.Replies.{status_of, plan_reply, span_reply, node_reply, buffer_reply, count_reply, clean_reply, gains_reply, stereo_reply};
 
-use builder::{NumberAnswer, SpanAnswer};
-use format_balance::{Gains, Stereo};
 use plan::{Plan, Span};
 use refusal::{Answer, Refusal};
-use run::Ran;
-use trace::{AllSources, CleanAnswer, Sources};
 
 // 0 and 0 where the call was accepted, else the refusal's number and place.
 #[repr(C)]
@@ -84,30 +80,18 @@ pub struct StereoReply {
     pub right_from_right: f64,
 }
 
-fn accepted() -> Status
-    ensures { result ≡ accepted }
-{
-    Status {
-        number: 0,
-        place: 0,
-    }
-}
-
-fn refused(r: Refusal) -> Status
-    ensures { result ≡ refused r }
-{
-    Status {
-        number: r.number,
-        place: r.place,
-    }
-}
-
-pub fn status_of(answer: Answer) -> Status
+pub fn status_of<T: Copy>(answer: Result<T, Refusal>) -> Status
     ensures { result ≡ status_of answer }
 {
     match answer {
-        Answer::Accepted => accepted(),
-        Answer::Refused(r) => refused(r),
+        Ok(_) => Status {
+            number: 0,
+            place: 0,
+        },
+        Err(r) => Status {
+            number: r.reason.number(),
+            place: r.place.unwrap_or(0),
+        },
     }
 }
 
@@ -120,153 +104,74 @@ pub fn plan_reply(plan: Plan, answer: Answer) -> PlanReply
     }
 }
 
-pub fn span_reply(plan: Plan, answer: SpanAnswer) -> SpanReply
+pub fn span_reply(plan: Plan, answer: Result<Span, Refusal>) -> SpanReply
     ensures { result ≡ span_reply plan answer }
 {
-    match answer {
-        SpanAnswer::Made(span) => SpanReply {
-            status: accepted(),
-            plan,
-            span,
-        },
-        SpanAnswer::Refused(r) => SpanReply {
-            status: refused(r),
-            plan,
-            span: Span { start: 0, len: 0 },
-        },
+    let span = answer.unwrap_or(Span { start: 0, len: 0 });
+    SpanReply {
+        status: status_of(answer),
+        plan,
+        span,
     }
 }
 
-pub fn node_reply(plan: Plan, answer: NumberAnswer) -> NodeReply
+pub fn node_reply(plan: Plan, answer: Result<u32, Refusal>) -> NodeReply
     ensures { result ≡ node_reply plan answer }
 {
-    match answer {
-        NumberAnswer::Number(node) => NodeReply {
-            status: accepted(),
-            plan,
-            node,
-        },
-        NumberAnswer::Refused(r) => NodeReply {
-            status: refused(r),
-            plan,
-            node: 0,
-        },
+    NodeReply {
+        status: status_of(answer),
+        plan,
+        node: answer.unwrap_or(0),
     }
 }
 
-pub fn buffer_reply(answer: NumberAnswer) -> BufferReply
+pub fn buffer_reply(answer: Result<u32, Refusal>) -> BufferReply
     ensures { result ≡ buffer_reply answer }
 {
-    match answer {
-        NumberAnswer::Number(buffer) => BufferReply {
-            status: accepted(),
-            buffer,
-        },
-        NumberAnswer::Refused(r) => BufferReply {
-            status: refused(r),
-            buffer: 0,
-        },
+    BufferReply {
+        status: status_of(answer),
+        buffer: answer.unwrap_or(0),
     }
 }
 
-pub fn counted(count: usize) -> CountReply
-    ensures { result ≡ counted count }
+pub fn count_reply(answer: Result<usize, Refusal>) -> CountReply
+    ensures { result ≡ count_reply answer }
 {
     CountReply {
-        status: accepted(),
-        count,
+        status: status_of(answer),
+        count: answer.unwrap_or(0),
     }
 }
 
-pub fn not_counted(r: Refusal) -> CountReply
-    ensures { result ≡ not_counted r }
-{
-    CountReply {
-        status: refused(r),
-        count: 0,
-    }
-}
-
-pub fn ran_reply(answer: Ran) -> CountReply
-    ensures { result ≡ ran_reply answer }
-{
-    match answer {
-        Ran::Wrote(n) => counted(n),
-        Ran::Refused(r) => not_counted(r),
-    }
-}
-
-pub fn sources_reply(answer: Sources) -> CountReply
-    ensures { result ≡ sources_reply answer }
-{
-    match answer {
-        Sources::Listed(n) => counted(n as usize),
-        Sources::Refused(r) => not_counted(r),
-    }
-}
-
-pub fn all_reply(answer: AllSources) -> CountReply
-    ensures { result ≡ all_reply answer }
-{
-    match answer {
-        AllSources::Slots(n) => counted(n as usize),
-        AllSources::Refused(r) => not_counted(r),
-    }
-}
-
-pub fn clean_reply(answer: CleanAnswer) -> CleanReply
+pub fn clean_reply(answer: Result<bool, Refusal>) -> CleanReply
     ensures { result ≡ clean_reply answer }
 {
-    match answer {
-        CleanAnswer::Clean => CleanReply {
-            status: accepted(),
-            clean: true,
-        },
-        CleanAnswer::NotClean => CleanReply {
-            status: accepted(),
-            clean: false,
-        },
-        CleanAnswer::Refused(r) => CleanReply {
-            status: refused(r),
-            clean: false,
-        },
+    CleanReply {
+        status: status_of(answer),
+        clean: answer.unwrap_or(false),
     }
 }
 
-pub fn gains_reply(answer: Gains) -> GainsReply
+pub fn gains_reply(answer: Result<(f64, f64), Refusal>) -> GainsReply
     ensures { result ≡ gains_reply answer }
 {
-    match answer {
-        Gains::Pair(left, right) => GainsReply {
-            status: accepted(),
-            left,
-            right,
-        },
-        Gains::Refused(r) => GainsReply {
-            status: refused(r),
-            left: 0.0,
-            right: 0.0,
-        },
+    let (left, right) = answer.unwrap_or((0.0, 0.0));
+    GainsReply {
+        status: status_of(answer),
+        left,
+        right,
     }
 }
 
-pub fn stereo_reply(answer: Stereo) -> StereoReply
+pub fn stereo_reply(answer: Result<[f64; 4], Refusal>) -> StereoReply
     ensures { result ≡ stereo_reply answer }
 {
-    match answer {
-        Stereo::Matrix(ll, lr, rl, rr) => StereoReply {
-            status: accepted(),
-            left_from_left: ll,
-            left_from_right: lr,
-            right_from_left: rl,
-            right_from_right: rr,
-        },
-        Stereo::Refused(r) => StereoReply {
-            status: refused(r),
-            left_from_left: 0.0,
-            left_from_right: 0.0,
-            right_from_left: 0.0,
-            right_from_right: 0.0,
-        },
+    let matrix = answer.unwrap_or([0.0; 4]);
+    StereoReply {
+        status: status_of(answer),
+        left_from_left: matrix[0],
+        left_from_right: matrix[1],
+        right_from_left: matrix[2],
+        right_from_right: matrix[3],
     }
 }

@@ -59,7 +59,7 @@ in_range_finish n block g = record { len = rw len_finish g.len; left = left_boun
 abbrev bad_at : List ℕ → ℕ → Bool
 bad_at words i = is_bad (len_at words i) (left_at words i) (safe_at words i)
 
-none_bad : (words : List ℕ) (count : ℕ) → ((i : ℕ) → i < count → bad_at words i ≡ false) → some_bad words count ≡ false
+pub none_bad : (words : List ℕ) (count : ℕ) → ((i : ℕ) → i < count → bad_at words i ≡ false) → some_bad words count ≡ false
 unfolding some_bad
 none_bad words zero all = refl
 none_bad words (suc n) all = rw (none_bad words n (λ (i : ℕ) (h : i < n). all i (omega arith)), all n (omega arith))

@@ -1,9 +1,11 @@
 -- A turn of each loop over a node, and what `finish_block` has made at each of its ends. Assumes nothing.
-use Prim.Native.Nat.{ℕ, ◌+◌, ◌-◌, min}
+use Prim.Native.Nat.{ℕ, zero, suc, ◌+◌, ◌-◌, ◌≤◌, min}
+use native.Mathlib.Omega.{arith}
 use native.Mathlib.Nat.{le_refl}
-use mathlib.Core.Path.{◌≡◌, ap, ◌∙◌}
-use mathlib.Core.List.{List}
-use lib.ListN.{set}
+use mathlib.Core.Path.{◌≡◌, refl, sym, ap, ◌∙◌}
+use mathlib.Core.List.{List, [], ◌∷◌, ◌++◌, append_assoc}
+use lib.ListN.{length, take, drop, set}
+use lib.Seq.{take-suc, drop-cons, set-append_seam, length-take-le}
 use lib.Ieee.{Float, nan}
 use borrow.Author.Tests.{eq-eqb, ne_eqb}
 use Rattle.lists.specs.Parts.{upto}
@@ -14,21 +16,26 @@ use Rattle.node.specs.declared.Node.{Node}
 abbrev pub new_left : Node → ℕ → Node
 new_left n left = changed n n.cur n.target n.step left
 
--- ---- n after i turns of the loop over target, over step and over cur
-abbrev pub target_upto : Node → List Float → ℕ → Node
-target_upto n values i = changed n n.cur (upto i (at values) n.target) n.step n.left
+-- ---- the first n values of a row, copied as one
+pub start_upto : (n : ℕ) (xs zs : List Float) → n ≤ length xs → n ≤ length zs → take n xs ++ drop n zs ≡ upto n (at xs) zs
+start_upto zero xs zs h k = refl
+start_upto (suc n) xs zs h k =
+    let v : Float = at xs n in
+    let l : length (take n xs) ≡ n = length-take-le n xs (omega arith) in
+    let d : drop n zs ≡ at zs n ∷ drop (suc n) zs = drop-cons zs n nan (omega arith) in
+    ap (λ (t : List Float). t ++ drop (suc n) zs) (take-suc xs n nan (omega arith))
+    ∙ append_assoc (take n xs) (v ∷ []) (drop (suc n) zs)
+    ∙ sym (set-append_seam (take n xs) (at zs n) (drop (suc n) zs) v)
+    ∙ ap (λ (i : ℕ). set (take n xs ++ at zs n ∷ drop (suc n) zs) i v) l
+    ∙ ap (λ (t : List Float). set (take n xs ++ t) n v) (sym d)
+    ∙ ap (λ (t : List Float). set t n v) (start_upto n xs zs (omega arith) (omega arith))
 
+-- ---- n after i turns of the loop over step and over cur
 abbrev pub step_upto : Node → ℕ → ℕ → Node
 step_upto n r i = changed n n.cur n.target (upto i (step_over n r) n.step) n.left
 
 abbrev pub cur_upto : Node → ℕ → ℕ → Node
 cur_upto n m i = changed n (upto i (cur_after n m) n.cur) n.target n.step n.left
-
-pub target_more : (s n : Node) (values : List Float) (i : ℕ) → s ≡ target_upto n values i
-    → changed s s.cur (set s.target i (at values i)) s.step s.left ≡ target_upto n values (i + 1)
-target_more s n values i e =
-    ap (λ (x : Node). changed x x.cur (set x.target i (at values i)) x.step x.left) e
-    ∙ ap (λ (t : List Float). changed n n.cur t n.step n.left) (upto_more (at values) i n.target)
 
 pub step_more : (s n : Node) (r i : ℕ) → s ≡ step_upto n r i
     → changed s s.cur s.target (set s.step i (step_over s r i)) s.left ≡ step_upto n r (i + 1)

@@ -2,3 +2,4 @@
 pub mod Sizes
 pub mod Nodes
 pub mod Areas
+pub mod Rows

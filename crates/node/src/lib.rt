@@ -4,6 +4,7 @@
 
 ghost use Rattle.std.specs.Prelude.{◌≡◌, true, cond, ◌+◌, ◌<◌, ◌≤◌};
 ghost use Rattle.node.specs.Sizes.{max_values, max_ramp};
+ghost use Rattle.node.specs.Rows.{Values, gain_in};
 ghost use Rattle.node.specs.Nodes.{with_target, at_target, start_ramp, new_node, set_node, finish_block, gain_from, gain_of, ramping, factor};
 
 use lists::smaller;
@@ -28,6 +29,15 @@ pub struct Node {
 pub enum Gain {
     Rest(f32),
     Moving(f32, f32, f32, u32),
+}
+
+// The rows of a node where they lie, and its left.
+#[derive(Clone, Copy)]
+pub struct Rows<'a> {
+    pub cur: &'a [f32],
+    pub step: &'a [f32],
+    pub target: &'a [f32],
+    pub left: u32,
 }
 
 // One of two values. Both are worked out before, so that LLVM makes a select of it and the sample loops stay without a branch.
@@ -86,9 +96,9 @@ impl Node {
         ensures { result ≡ with_target self values.now }
     {
         let n = smaller(self.len as usize, values.len());
-        for i in 0..n {
-            self.target[i] = values[i];
-        }
+        let mut target = self.target;
+        target[..n].copy_from_slice(&values[..n]);
+        self.target = target;
         self
     }
 
@@ -145,6 +155,16 @@ impl Node {
         } else {
             Gain::Moving(self.cur[i], self.step[i], self.target[i], self.left)
         }
+    }
+}
+
+impl<'a> Rows<'a> {
+    // Gain i, as `Gain::of` has it. Requires a place of each row.
+    pub fn gain(self, i: usize) -> Gain
+        requires { Values (i + 1) self }
+        ensures { result ≡ gain_in self.entry i }
+    {
+        Gain::of(self.cur[i], self.step[i], self.target[i], self.left)
     }
 }
 

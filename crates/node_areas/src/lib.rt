@@ -9,7 +9,7 @@ ghost use Rattle.node.specs.Sizes.{max_values, node_float_count, node_word_count
 ghost use Rattle.node.specs.Areas.{Room, id_at, len_at, left_at, cur_at, target_at, step_at, node_at, stored_floats, stored_words, ended, some_bad};
 ghost use Rattle.node_areas.specs.Loops.{cur_row};
 
-use node::Node;
+use node::{Node, Rows};
 
 // Where the rows after cur start among the floats of a node, and the words after id among its words.
 const TARGET: usize = Node::MAX;
@@ -61,18 +61,21 @@ pub fn cur_of(floats: &[f32], n: usize) -> &[f32]
     row(floats, n * Node::FLOATS)
 }
 
-pub fn target_of(floats: &[f32], n: usize) -> &[f32]
-    requires { (n + 1) * node_float_count ≤ length floats.now }
-    ensures { result.now ≡ target_at floats.now n }
+// The rows of node n. Requires areas that reach past it.
+pub fn rows_of<'a>(floats: &'a [f32], words: &[u32], n: usize) -> Rows<'a>
+    requires { Room (n + 1) floats.now words.now }
+    ensures cur { result.cur.now ≡ cur_at floats.now n }
+    ensures target { result.target.now ≡ target_at floats.now n }
+    ensures step { result.step.now ≡ step_at floats.now n }
+    ensures left { result.left ≡ left_at words.now n }
 {
-    row(floats, n * Node::FLOATS + TARGET)
-}
-
-pub fn step_of(floats: &[f32], n: usize) -> &[f32]
-    requires { (n + 1) * node_float_count ≤ length floats.now }
-    ensures { result.now ≡ step_at floats.now n }
-{
-    row(floats, n * Node::FLOATS + STEP)
+    let at = n * Node::FLOATS;
+    Rows {
+        cur: row(floats, at),
+        step: row(floats, at + STEP),
+        target: row(floats, at + TARGET),
+        left: left_of(words, n),
+    }
 }
 
 // ---- a whole node
@@ -82,11 +85,9 @@ fn load_row(floats: &[f32], at: usize) -> [f32; Node::MAX]
     requires { at + max_values ≤ length floats.now }
     ensures { result ≡ part at max_values floats.now }
 {
-    let mut row = [0.0f32; Node::MAX];
-    for i in 0..Node::MAX {
-        row[i] = floats[at + i];
-    }
-    row
+    let mut loaded = [0.0f32; Node::MAX];
+    loaded.copy_from_slice(row(floats, at));
+    loaded
 }
 
 // Requires floats that reach past the row.
@@ -94,9 +95,7 @@ fn store_row(row: [f32; Node::MAX], floats: &mut [f32], at: usize)
     requires { at + max_values ≤ length floats.old }
     ensures { floats.new ≡ sets floats.old at row }
 {
-    for i in 0..Node::MAX {
-        floats[at + i] = row[i];
-    }
+    floats[at..at + Node::MAX].copy_from_slice(&row);
 }
 
 // Node n of the lent areas, whatever they hold. Requires areas that reach past it.
@@ -179,14 +178,10 @@ pub fn any_bad(words: &[u32], count: usize) -> bool
     requires { count * node_word_count ≤ length words.now }
     ensures { result ≡ some_bad words.now count }
 {
-    for i in 0..count {
+    (0..count).any(|i| {
         let w = i * Node::WORDS;
-        if (words[w + LEN] > Node::MAX as u32)
+        (words[w + LEN] > Node::MAX as u32)
             | (words[w + LEFT] > Node::MAX_RAMP)
             | (words[w + SAFE] > Node::MAX_SAFE)
-        {
-            return true;
-        }
-    }
-    false
+    })
 }

@@ -6,21 +6,21 @@ use mathlib.Core.List.{List}
 use Prim.Native.Nat.{ℕ, suc, ◌≤◌}
 use lib.ListN.{length, take}
 use Rattle.lists.proofs.Entries.{entries_none}
-use Rattle.refusal.specs.declared.Answer.TheVariants.{Accepted}
 use Rattle.plan.specs.declared.Plan.{Plan}
 use Rattle.plan.specs.declared.Step.{Step}
-use Rattle.plan.specs.declared.Read.TheVariants.{Found}
 use Rattle.plan.specs.Limits.{unit_limits}
 use Rattle.plan.specs.Areas.{Areas, short_areas, short_lists}
 use Rattle.plan.specs.Words.{read_at, decoded}
 use Rattle.plan.specs.Check.{checked, check_plan}
 use Rattle.plan.specs.Sound.{Narrow, Apart, Placed, Each, steps_of, Pass, Passes}
+use Rattle.plan.proofs.Words.{same_read}
 use Rattle.plan.proofs.Plans.{WithinLimits, Room, ListRoom, areas_none, lists_none}
 use Rattle.plan.proofs.Passes.{all_passes, passes_placed}
 use Rattle.plan.proofs.Exact.{accepted_all, accepted_sound}
+use Rattle.std.specs.Prelude.{Ok, Some}
 
 -- ---- the plan
-module _ (p : Plan) (short : Bool) (indices words steps : List ℕ) (e : checked p short indices words steps ≡ Accepted) where
+module _ (p : Plan) (short : Bool) (indices words steps : List ℕ) (e : checked p short indices words steps ≡ Ok tt) where
   pub accepted_limits : WithinLimits unit_limits p
   accepted_limits =
       let s = accepted_sound p short indices words steps e in
@@ -45,10 +45,10 @@ module _ (p : Plan) (short : Bool) (indices words steps : List ℕ) (e : checked
   accepted_placed h = passes_placed p indices (take p.words steps) p.steps 0 (accepted_passes h)
 
 -- the room of all six areas, where the call tested them, and of three
-pub accepted_room : (p : Plan) (a : Areas) → check_plan p a ≡ Accepted → Room p a
+pub accepted_room : (p : Plan) (a : Areas) → check_plan p a ≡ Ok tt → Room p a
 accepted_room p a e = (areas_none p a).0 (accepted_sound p (short_areas p a) a.indices a.node_words a.step_words e).areas
 
-pub accepted_lists : (p : Plan) (indices words steps : List ℕ) → checked p (short_lists p indices words steps) indices words steps ≡ Accepted
+pub accepted_lists : (p : Plan) (indices words steps : List ℕ) → checked p (short_lists p indices words steps) indices words steps ≡ Ok tt
     → ListRoom p indices words steps
 accepted_lists p indices words steps e =
     (lists_none p indices words steps).0 (accepted_sound p (short_lists p indices words steps) indices words steps e).areas
@@ -58,12 +58,9 @@ module _ (p : Plan) (indices w : List ℕ) (at : ℕ) {left more : ℕ} (e : lef
   pass : Pass p indices w at (λ next. Passes p indices w more next)
   pass = subst (λ (k : ℕ). Passes p indices w k at) e f
 
-  module _ {s : Step} {next : ℕ} (r : read_at w at ≡ Found s next) where
-    same : Found s next ≡ Found pass.step pass.next
-    same = sym r ∙ pass.read
-
+  module _ {s : Step} {next : ℕ} (r : read_at w at ≡ Some (s, next)) where
     the_step : s ≡ pass.step
-    the_step = cc same
+    the_step = (same_read (sym r ∙ pass.read)).0
 
     pub pass_placed : Placed p indices s
     pass_placed = rw the_step pass.placed
@@ -76,5 +73,5 @@ module _ (p : Plan) (indices w : List ℕ) (at : ℕ) {left more : ℕ} (e : lef
 
     pub pass_rest : Passes p indices w more next
     pass_rest =
-        let q : next ≡ pass.next = cc same in
+        let q = (same_read (sym r ∙ pass.read)).1 in
         rw q pass.rest

@@ -7,20 +7,17 @@ use Prim.Native.Nat.{ℕ, suc, ◌+◌, ◌-◌, ◌<◌}
 use native.Mathlib.Omega.{arith}
 use lib.ListN.{take}
 use Rattle.lists.specs.Entries.{some_from}
-use Rattle.refusal.specs.Numbers.{block_length, short_area, unreadable_step, outside_table, over_limit, shared_buffer, too_many_values, id_taken}
-use Rattle.refusal.specs.Tests.{refusal, Test, first}
+use Rattle.refusal.specs.Tests.{refusal, Test, first, Answer}
 use Rattle.refusal.specs.declared.Refusal.{Refusal}
-use Rattle.refusal.specs.declared.Answer.{Answer}
-use Rattle.refusal.specs.declared.Answer.TheVariants.{Accepted, Refused}
 use Rattle.refusal.proofs.Laws.{first_append, accepted_none, none_rest, refused_rest}
 use Rattle.plan.specs.declared.Plan.{Plan}
 use Rattle.plan.specs.declared.Step.{Step}
-use Rattle.plan.specs.declared.Read.TheVariants.{Found, Bad}
-use Rattle.plan.specs.declared.Counted.TheVariants as tally
 use Rattle.plan.specs.Limits.{unit_limits, bad_block, over_limits}
 use Rattle.plan.specs.Words.{read_at}
 use Rattle.plan.specs.Loops.{counted}
 use Rattle.plan.specs.Check.{id_twice, outside, too_wide, shares, step_tests, steps_tests, checked}
+use Rattle.refusal.specs.declared.Reason.TheVariants.{BlockLength, IdTaken, OutsideTable, OverLimit, SharedBuffer, ShortArea, TooManyValues, UnreadableStep}
+use Rattle.std.specs.Prelude.{Ok, Err, Some, None}
 
 -- what is left of n at an i below it
 pub rest_of : {n i : ℕ} → i < n → n - i ≡ suc (n - (i + 1))
@@ -28,97 +25,97 @@ rest_of h = omega arith
 
 -- ---- one step, with no step after it
 abbrev pub alone : Plan → List ℕ → ℕ → Step → List Test
-alone p indices place s = step_tests p indices place (Found s 0) (λ _. [])
+alone p indices place s = step_tests p indices place (Some (s, 0)) (λ _. [])
 
 module _ (p : Plan) (indices : List ℕ) (place : ℕ) (s : Step) where
-  pub step_4 : outside p s ≡ true → first (alone p indices place s) Accepted ≡ Refused (refusal outside_table place)
+  pub step_4 : outside p s ≡ true → first (alone p indices place s) (Ok tt) ≡ Err (refusal OutsideTable (Some place))
   step_4 e = rw e
 
   module _ (e4 : outside p s ≡ false) where
-    pub step_7 : too_wide s ≡ true → first (alone p indices place s) Accepted ≡ Refused (refusal too_many_values place)
+    pub step_7 : too_wide s ≡ true → first (alone p indices place s) (Ok tt) ≡ Err (refusal TooManyValues (Some place))
     step_7 e = rw (e4, e)
 
     module _ (e7 : too_wide s ≡ false) where
-      pub step_6 : shares indices s ≡ true → first (alone p indices place s) Accepted ≡ Refused (refusal shared_buffer place)
+      pub step_6 : shares indices s ≡ true → first (alone p indices place s) (Ok tt) ≡ Err (refusal SharedBuffer (Some place))
       step_6 e = rw (e4, e7, e)
 
-      pub step_accepted : shares indices s ≡ false → first (alone p indices place s) Accepted ≡ Accepted
+      pub step_accepted : shares indices s ≡ false → first (alone p indices place s) (Ok tt) ≡ Ok tt
       step_accepted e = rw (e4, e7, e)
 
 -- ---- a turn over the steps: `left` of them are left, and `more` after this one
 module _ (p : Plan) (indices w : List ℕ) (at place : ℕ) {left more : ℕ} (e : left ≡ suc more) where
-  pub turn_bad : read_at w at ≡ Bad → first (steps_tests p indices w left at place) Accepted ≡ Refused (refusal unreadable_step place)
+  pub turn_bad : read_at w at ≡ None → first (steps_tests p indices w left at place) (Ok tt) ≡ Err (refusal UnreadableStep (Some place))
   unfolding steps_tests
-  turn_bad r = ap (λ (k : ℕ). first (steps_tests p indices w k at place) Accepted) e ∙ rw r
+  turn_bad r = ap (λ (k : ℕ). first (steps_tests p indices w k at place) (Ok tt)) e ∙ rw r
 
-  module _ {s : Step} {next : ℕ} (r : read_at w at ≡ Found s next) where
+  module _ {s : Step} {next : ℕ} (r : read_at w at ≡ Some (s, next)) where
     pub turn : steps_tests p indices w left at place ≡ alone p indices place s ++ steps_tests p indices w more next (place + 1)
     unfolding steps_tests
     turn = ap (λ (k : ℕ). steps_tests p indices w k at place) e ∙ rw r
 
-    after : first (steps_tests p indices w left at place) Accepted
-        ≡ first (alone p indices place s) (first (steps_tests p indices w more next (place + 1)) Accepted)
-    after = ap (λ (l : List Test). first l Accepted) turn ∙ first_append (alone p indices place s) (steps_tests p indices w more next (place + 1)) Accepted
+    after : first (steps_tests p indices w left at place) (Ok tt)
+        ≡ first (alone p indices place s) (first (steps_tests p indices w more next (place + 1)) (Ok tt))
+    after = ap (λ (l : List Test). first l (Ok tt)) turn ∙ first_append (alone p indices place s) (steps_tests p indices w more next (place + 1)) (Ok tt)
 
-    pub turn_refused : (q : Refusal) → first (alone p indices place s) Accepted ≡ Refused q → first (steps_tests p indices w left at place) Accepted ≡ Refused q
-    turn_refused q t = after ∙ refused_rest (alone p indices place s) (first (steps_tests p indices w more next (place + 1)) Accepted) q t
+    pub turn_refused : (q : Refusal) → first (alone p indices place s) (Ok tt) ≡ Err q → first (steps_tests p indices w left at place) (Ok tt) ≡ Err q
+    turn_refused q t = after ∙ refused_rest (alone p indices place s) (first (steps_tests p indices w more next (place + 1)) (Ok tt)) q t
 
-    pub turn_on : first (alone p indices place s) Accepted ≡ Accepted
-        → first (steps_tests p indices w left at place) Accepted ≡ first (steps_tests p indices w more next (place + 1)) Accepted
+    pub turn_on : first (alone p indices place s) (Ok tt) ≡ Ok tt
+        → first (steps_tests p indices w left at place) (Ok tt) ≡ first (steps_tests p indices w more next (place + 1)) (Ok tt)
     turn_on t =
         after
-        ∙ none_rest (alone p indices place s) (first (steps_tests p indices w more next (place + 1)) Accepted)
-        (accepted_none (alone p indices place s) Accepted t).0
+        ∙ none_rest (alone p indices place s) (first (steps_tests p indices w more next (place + 1)) (Ok tt))
+        (accepted_none (alone p indices place s) (Ok tt) t).0
 
-pub turns_done : (p : Plan) (indices w : List ℕ) (at place : ℕ) {left : ℕ} → left ≡ 0 → first (steps_tests p indices w left at place) Accepted ≡ Accepted
+pub turns_done : (p : Plan) (indices w : List ℕ) (at place : ℕ) {left : ℕ} → left ≡ 0 → first (steps_tests p indices w left at place) (Ok tt) ≡ Ok tt
 unfolding steps_tests
-turns_done p indices w at place e = ap (λ (k : ℕ). first (steps_tests p indices w k at place) Accepted) e
+turns_done p indices w at place e = ap (λ (k : ℕ). first (steps_tests p indices w k at place) (Ok tt)) e
 
 -- ---- the plan
 module _ (p : Plan) (short : Bool) (indices words steps : List ℕ) where
   abbrev entries : Bool
   entries = some_from p.buffers (take p.indices indices)
 
-  pub check_1 : bad_block p.block ≡ true → checked p short indices words steps ≡ Refused (refusal block_length 0)
+  pub check_1 : bad_block p.block ≡ true → checked p short indices words steps ≡ Err (refusal BlockLength None)
   unfolding checked
   check_1 e = rw e
 
   module _ (e1 : bad_block p.block ≡ false) where
-    pub check_5 : over_limits unit_limits p ≡ true → checked p short indices words steps ≡ Refused (refusal over_limit 0)
+    pub check_5 : over_limits unit_limits p ≡ true → checked p short indices words steps ≡ Err (refusal OverLimit None)
     unfolding checked
     check_5 e = rw (e1, e)
 
     module _ (e5 : over_limits unit_limits p ≡ false) where
-      pub check_2 : short ≡ true → checked p short indices words steps ≡ Refused (refusal short_area 0)
+      pub check_2 : short ≡ true → checked p short indices words steps ≡ Err (refusal ShortArea None)
       unfolding checked
       check_2 e = rw (e1, e5, e)
 
       module _ (e2 : short ≡ false) where
-        pub check_4 : entries ≡ true → checked p short indices words steps ≡ Refused (refusal outside_table 0)
+        pub check_4 : entries ≡ true → checked p short indices words steps ≡ Err (refusal OutsideTable None)
         unfolding checked
         check_4 e = rw (e1, e5, e2, e)
 
         module _ (e4 : entries ≡ false) where
-          pub check_8 : id_twice words p.nodes ≡ true → checked p short indices words steps ≡ Refused (refusal id_taken 0)
+          pub check_8 : id_twice words p.nodes ≡ true → checked p short indices words steps ≡ Err (refusal IdTaken None)
           unfolding checked
           check_8 e = rw (e1, e5, e2, e4, e)
 
           pub check_steps : id_twice words p.nodes ≡ false
-              → checked p short indices words steps ≡ first (steps_tests p indices (take p.words steps) p.steps 0 1) Accepted
+              → checked p short indices words steps ≡ first (steps_tests p indices (take p.words steps) p.steps 0 1) (Ok tt)
           unfolding checked
           check_steps e = rw (e1, e5, e2, e4, e)
 
 -- ---- an answer with the channels, and back
-pub counted_refused : {a : Answer} (n : ℕ) {q r : Refusal} → q ≡ r → a ≡ Refused r → tally.Refused q ≡ counted a n
+pub counted_refused : {a : Answer} (n : ℕ) {q r : Refusal} → q ≡ r → a ≡ Err r → Err q ≡ counted a n
 counted_refused n p e = rw (p, e)
 
-pub counted_accepted : {a : Answer} {n m : ℕ} → n ≡ m → a ≡ Accepted → tally.Channels n ≡ counted a m
+pub counted_accepted : {a : Answer} {n m : ℕ} → n ≡ m → a ≡ Ok tt → Ok n ≡ counted a m
 counted_accepted p e = rw (p, e)
 
-pub was_accepted : (a : Answer) (n m : ℕ) → tally.Channels m ≡ counted a n → (a ≡ Accepted) × (m ≡ n)
-was_accepted Accepted n m e = (refl, cc)
-was_accepted (Refused r) n m e = (cc, cc)
+pub was_accepted : (a : Answer) (n m : ℕ) → Ok m ≡ counted a n → (a ≡ Ok tt) × (m ≡ n)
+was_accepted (Ok _) n m e = (refl, cc)
+was_accepted (Err r) n m e = (cc, cc)
 
-pub was_refused : (a : Answer) (n : ℕ) (q : Refusal) → tally.Refused q ≡ counted a n → a ≡ Refused q
-was_refused Accepted n q e = cc
-was_refused (Refused r) n q e = cc
+pub was_refused : (a : Answer) (n : ℕ) (q : Refusal) → Err q ≡ counted a n → a ≡ Err q
+was_refused (Ok _) n q e = cc
+was_refused (Err r) n q e = cc

@@ -5,11 +5,11 @@ use Prim.Native.Nat.{ℕ, ◌+◌, ◌-◌, ◌*◌, ◌≤◌, ◌<◌}
 use native.Mathlib.Nat.{sub-zero}
 use native.Mathlib.Omega.{arith}
 use Rattle.plan.specs.declared.Step.{Step}
-use Rattle.plan.specs.declared.Read.TheVariants.{Found}
 use Rattle.plan.specs.Words.{read_at, decoded_from, decoded}
 use Rattle.plan.proofs.Answers.{rest_of}
 use Rattle.plan.proofs.Words.{decoded_on, decoded_none}
 use Rattle.plan.specs.Loops.{channels, channels_of}
+use Rattle.std.specs.Prelude.{Some}
 
 -- i of n steps are behind, and have `total` channels
 pub record Counting (w : List ℕ) (n total at i : ℕ) : Type 0 where
@@ -23,7 +23,7 @@ module _ (w : List ℕ) (n : ℕ) where
   counting_starts = record { turns = omega arith; small = omega arith; so = rw sub-zero (omega arith) }
 
   module _ (total at i : ℕ) (c : Counting w n total at i) where
-    pub counting_more : i < n → {s : Step} {next : ℕ} → read_at w at ≡ Found s next → channels s < 4294967296
+    pub counting_more : i < n → {s : Step} {next : ℕ} → read_at w at ≡ Some (s, next) → channels s < 4294967296
         → Counting w n (total + channels s) next (i + 1)
     unfolding channels_of
     counting_more h {s} {next} r b =

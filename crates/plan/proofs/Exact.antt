@@ -8,7 +8,6 @@ use lib.ListN.{take}
 use Rattle.lists.proofs.Entries.{entries_none}
 use Rattle.refusal.specs.Tests.{FirstHolds}
 use Rattle.refusal.specs.declared.Refusal.{Refusal}
-use Rattle.refusal.specs.declared.Answer.TheVariants.{Accepted, Refused}
 use Rattle.refusal.proofs.Laws.{accepted_none, none_accepted, refused_first, first_refused}
 use Rattle.plan.specs.declared.Plan.{Plan}
 use Rattle.plan.specs.Limits.{unit_limits}
@@ -17,20 +16,21 @@ use Rattle.plan.specs.Check.{plan_tests, checked}
 use Rattle.plan.specs.Sound.{steps_of, Sound}
 use Rattle.plan.proofs.Plans.{WithinLimits, block_none, limits_none, ids_none}
 use Rattle.plan.proofs.Passes.{All, none_all, all_none}
+use Rattle.std.specs.Prelude.{Ok, Err}
 
 module _ (p : Plan) (short : Bool) (indices words steps : List ℕ) where
   abbrev w : List ℕ
   w = take p.words steps
 
-  -- the steps of an accepted plan
-  pub accepted_all : checked p short indices words steps ≡ Accepted → All p indices p.steps (steps_of p steps)
+  -- the steps of an (Ok tt) plan
+  pub accepted_all : checked p short indices words steps ≡ Ok tt → All p indices p.steps (steps_of p steps)
   unfolding checked decoded
-  accepted_all e = none_all p indices w p.steps 0 1 (accepted_none (plan_tests p short indices words steps) Accepted e).0.1.1.1.1.1
+  accepted_all e = none_all p indices w p.steps 0 1 (accepted_none (plan_tests p short indices words steps) (Ok tt) e).0.1.1.1.1.1
 
-  pub accepted_sound : checked p short indices words steps ≡ Accepted → Sound p short indices words steps
+  pub accepted_sound : checked p short indices words steps ≡ Ok tt → Sound p short indices words steps
   unfolding checked
   accepted_sound e =
-      let h = (accepted_none (plan_tests p short indices words steps) Accepted e).0 in
+      let h = (accepted_none (plan_tests p short indices words steps) (Ok tt) e).0 in
       let block = (block_none p.block).0 h.0 in
       let limits = (limits_none unit_limits p).0 h.1.0 in
       let all = accepted_all e in
@@ -51,7 +51,7 @@ module _ (p : Plan) (short : Bool) (indices words steps : List ℕ) where
         apart = all.apart;
       }
 
-  pub sound_accepted : Sound p short indices words steps → checked p short indices words steps ≡ Accepted
+  pub sound_accepted : Sound p short indices words steps → checked p short indices words steps ≡ Ok tt
   unfolding checked decoded
   sound_accepted s =
       let limits : WithinLimits unit_limits p = record {
@@ -68,10 +68,10 @@ module _ (p : Plan) (short : Bool) (indices words steps : List ℕ) where
       none_accepted (plan_tests p short indices words steps)
       ((block_none p.block).1 (s.block_least, s.block_most), ((limits_none unit_limits p).1 limits, (s.areas, (entries, (ids, tests)))))
 
-  pub accepted_exactly : (checked p short indices words steps ≡ Accepted) ↔ Sound p short indices words steps
+  pub accepted_exactly : (checked p short indices words steps ≡ Ok tt) ↔ Sound p short indices words steps
   accepted_exactly = (accepted_sound, sound_accepted)
 
-  pub refused_exactly : (r : Refusal) → (checked p short indices words steps ≡ Refused r) ↔ FirstHolds (plan_tests p short indices words steps) r
+  pub refused_exactly : (r : Refusal) → (checked p short indices words steps ≡ Err r) ↔ FirstHolds (plan_tests p short indices words steps) r
   unfolding checked
   refused_exactly r =
-      (refused_first (plan_tests p short indices words steps) r, first_refused (plan_tests p short indices words steps) Accepted r)
+      (refused_first (plan_tests p short indices words steps) r, first_refused (plan_tests p short indices words steps) (Ok tt) r)

@@ -6,26 +6,26 @@ use lib.Count.{ones, ones_in}
 use lib.Ieee.{nan}
 use lib.ListN.{replicate}
 use Rattle.lists.specs.Entries.{some_from, has, meet}
-use Rattle.refusal.specs.Tests.{refusal}
-use Rattle.refusal.specs.declared.Answer.{Answer}
-use Rattle.refusal.specs.declared.Answer.TheVariants.{Accepted, Refused}
+use Rattle.refusal.specs.Tests.{refusal, Answer}
 use Rattle.node.specs.Nodes.{zero_node}
 use Rattle.node.specs.Areas.{floats_of, words_of}
 use Rattle.plan.specs.Areas.{areas}
 use Rattle.plan.specs.Words.{patch_map, matrix_map, step_of, read_at}
 use Rattle.plan.specs.Check.{id_among, id_twice, outside_by, too_wide, shares, steps_tests, checked, check_plan}
 use Rattle.plan.specs.PlanRecord.{plan_with}
+use Rattle.refusal.specs.declared.Reason.TheVariants.{BlockLength, OutsideTable, TooManyValues}
+use Rattle.std.specs.Prelude.{Ok, Err, Some, None}
 
 -- a block and nothing else
 abbrev block_of : ℕ → Answer
 block_of block =
     check_plan (plan_with block 0 0 0 0 0 0) (areas [] [] [] [] [] [])
 
-pub case_11_block_taken : block_of 1024 ≡ Accepted
+pub case_11_block_taken : block_of 1024 ≡ Ok tt
 unfolding checked some_from id_twice steps_tests
 case_11_block_taken = refl
 
-pub case_11_block_refused : block_of 1025 ≡ Refused (refusal 1 0)
+pub case_11_block_refused : block_of 1025 ≡ Err (refusal BlockLength None)
 unfolding checked
 case_11_block_refused = refl
 
@@ -36,11 +36,11 @@ matrix_of columns rows =
     (areas (0 ∷ 1 ∷ 2 ∷ 3 ∷ 4 ∷ 5 ∷ 6 ∷ 7 ∷ 8 ∷ 9 ∷ 10 ∷ 11 ∷ 12 ∷ 13 ∷ []) [] (floats_of (zero_node 5 24 0)) (words_of (zero_node 5 24 0))
     (matrix_map ∷ 0 ∷ 0 ∷ columns ∷ columns ∷ rows ∷ []) (replicate 14 nan))
 
-pub case_11_matrix_taken : matrix_of 12 2 ≡ Accepted
+pub case_11_matrix_taken : matrix_of 12 2 ≡ Ok tt
 unfolding checked some_from id_among id_twice floats_of words_of steps_tests read_at step_of ones ones_in outside_by too_wide has meet shares
 case_11_matrix_taken = refl
 
-pub case_11_matrix_refused : matrix_of 5 5 ≡ Refused (refusal 7 1)
+pub case_11_matrix_refused : matrix_of 5 5 ≡ Err (refusal TooManyValues (Some 1))
 unfolding checked some_from id_among id_twice floats_of words_of steps_tests read_at step_of ones ones_in outside_by too_wide
 case_11_matrix_refused = refl
 
@@ -50,10 +50,10 @@ patch_of input =
     check_plan (plan_with 1 1 0 0 0 1 4)
     (areas [] [] [] [] (patch_map ∷ input ∷ 0 ∷ 0 ∷ []) (nan ∷ []))
 
-pub case_11_input_taken : patch_of 255 ≡ Accepted
+pub case_11_input_taken : patch_of 255 ≡ Ok tt
 unfolding checked some_from id_twice steps_tests read_at step_of ones ones_in outside_by too_wide shares
 case_11_input_taken = refl
 
-pub case_11_input_refused : patch_of 256 ≡ Refused (refusal 4 1)
+pub case_11_input_refused : patch_of 256 ≡ Err (refusal OutsideTable (Some 1))
 unfolding checked some_from id_twice steps_tests read_at step_of ones ones_in outside_by
 case_11_input_refused = refl

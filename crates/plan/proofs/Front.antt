@@ -7,21 +7,18 @@ use Prim.Native.Nat.{ℕ, zero, suc, ◌+◌, ◌<◌}
 use native.Mathlib.Omega.{arith}
 use lib.ListN.{take}
 use Rattle.lists.proofs.Stores.{part_same}
-use Rattle.refusal.specs.Tests.{Test, first}
-use Rattle.refusal.specs.declared.Answer.{Answer}
-use Rattle.refusal.specs.declared.Answer.TheVariants.{Accepted}
+use Rattle.refusal.specs.Tests.{Test, first, Answer}
 use Rattle.node.specs.Areas.{id_at}
 use Rattle.plan.specs.declared.Plan.{Plan}
 use Rattle.plan.specs.declared.Span.{Span}
 use Rattle.plan.specs.declared.Step.{Step}
 use Rattle.plan.specs.declared.Step.TheVariants.{Patch, Gain, Matrix, Clear, Send, Output}
-use Rattle.plan.specs.declared.Read.{Read}
-use Rattle.plan.specs.declared.Read.TheVariants.{Found, Bad}
 use Rattle.plan.specs.Words.{read_at}
 use Rattle.plan.specs.Check.{id_among, id_twice, named, outside, shares, used, first_of, step_tests, steps_tests, checked}
 use Rattle.plan.specs.Sound.{Within, Inside}
 use Rattle.plan.proofs.Spans.{used_src, used_dst}
 use Rattle.plan.proofs.Steps.{outside_none}
+use Rattle.std.specs.Prelude.{Ok, Some, None, Option}
 
 -- ---- the ids
 module _ (vs ws : List ℕ) where
@@ -53,7 +50,7 @@ module _ (p : Plan) (xs ys : List ℕ) (e : take p.indices xs ≡ take p.indices
   shares_same (Send n s d c) h = rw (named_same s h.1, named_same d h.2)
   shares_same (Output s o) h = refl
 
-  pub steps_same : (w : List ℕ) (n at place : ℕ) → first (steps_tests p xs w n at place) Accepted ≡ first (steps_tests p ys w n at place) Accepted
+  pub steps_same : (w : List ℕ) (n at place : ℕ) → first (steps_tests p xs w n at place) (Ok tt) ≡ first (steps_tests p ys w n at place) (Ok tt)
   unfolding steps_tests
   steps_same w zero at place = refl
   steps_same w (suc n) at place = go (read_at w at) (λ next. steps_same w n next (place + 1))
@@ -61,16 +58,16 @@ module _ (p : Plan) (xs ys : List ℕ) (e : take p.indices xs ≡ take p.indices
       rest : List ℕ → ℕ → List Test
       rest l next = steps_tests p l w n next (place + 1)
 
-      tests : List ℕ → Read → Answer
-      tests l r = first (step_tests p l place r (rest l)) Accepted
+      tests : List ℕ → Option (Step × ℕ) → Answer
+      tests l r = first (step_tests p l place r (rest l)) (Ok tt)
 
-      go : (r : Read) → ((next : ℕ) → first (rest xs next) Accepted ≡ first (rest ys next) Accepted) → tests xs r ≡ tests ys r
-      go (Found s next) ih = by (outside p s) refl
+      go : (r : Option (Step × ℕ)) → ((next : ℕ) → first (rest xs next) (Ok tt) ≡ first (rest ys next) (Ok tt)) → tests xs r ≡ tests ys r
+      go (Some (s, next)) ih = by (outside p s) refl
         where
-          by : (b : Bool) → outside p s ≡ b → tests xs (Found s next) ≡ tests ys (Found s next)
+          by : (b : Bool) → outside p s ≡ b → tests xs (Some (s, next)) ≡ tests ys (Some (s, next))
           by true o = rw o
           by false o = rw (o, shares_same s ((outside_none p s).0 o), ih next)
-      go Bad ih = refl
+      go None ih = refl
 
 -- ---- the check
 pub check_front : (p : Plan) (short : Bool) (xs ys vs ws us zs : List ℕ) → take p.indices xs ≡ take p.indices ys

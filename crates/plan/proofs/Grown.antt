@@ -9,7 +9,6 @@ use lib.ListN.{length, take}
 use lib.Ieee.{Float}
 use Rattle.lists.proofs.Stores.{part_same}
 use Rattle.refusal.specs.Tests.{Test, first, NoneHolds}
-use Rattle.refusal.specs.declared.Answer.TheVariants.{Accepted}
 use Rattle.refusal.proofs.Laws.{first_append, none_rest}
 use Rattle.plan.specs.declared.Plan.{Plan}
 use Rattle.plan.specs.declared.Step.{Step}
@@ -22,6 +21,7 @@ use Rattle.plan.proofs.Steps.{outside_none, shares_none}
 use Rattle.plan.proofs.Parts.{end_from, decoded_parts_from, tests_parts}
 use Rattle.plan.proofs.Passes.{All, all_none}
 use Rattle.plan.proofs.Front.{named_same, shares_same}
+use Rattle.std.specs.Prelude.{Ok}
 
 -- no count of a table has fallen
 pub record Grew (p q : Plan) : Type 0 where
@@ -85,11 +85,11 @@ module _ {p q : Plan} (g : Grew p q) (old new : List ℕ) (e : take p.indices ne
 
   -- ---- steps that were added behind the old ones, whose words end with the last of them
   module _ (xs ys : List ℕ) (n m at : ℕ) (all : All p old n (decoded_from xs n at)) (end : end_from xs n at ≡ length xs) where
-    pub new_decide : (place : ℕ) → first (steps_tests q new (xs ++ ys) (n + m) at place) Accepted ≡ first (steps_tests q new ys m 0 (place + n)) Accepted
+    pub new_decide : (place : ℕ) → first (steps_tests q new (xs ++ ys) (n + m) at place) (Ok tt) ≡ first (steps_tests q new ys m 0 (place + n)) (Ok tt)
     new_decide place =
-        ap (λ (ts : List Test). first ts Accepted) (tests_parts xs ys n m at all.readable end q new place)
-        ∙ first_append (steps_tests q new xs n at place) (steps_tests q new ys m 0 (place + n)) Accepted
-        ∙ none_rest (steps_tests q new xs n at place) (first (steps_tests q new ys m 0 (place + n)) Accepted)
+        ap (λ (ts : List Test). first ts (Ok tt)) (tests_parts xs ys n m at all.readable end q new place)
+        ∙ first_append (steps_tests q new xs n at place) (steps_tests q new ys m 0 (place + n)) (Ok tt)
+        ∙ none_rest (steps_tests q new xs n at place) (first (steps_tests q new ys m 0 (place + n)) (Ok tt))
         (grown_none xs xs n at place refl all)
 
     pub resolved_parts : (us vs : List Float) → take p.coefficients us ≡ take p.coefficients vs

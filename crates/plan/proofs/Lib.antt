@@ -4,6 +4,8 @@
 pub mod Words
 -- where in the words a step lies
 pub mod Places
+-- what `any` answers over a list
+pub mod Searches
 -- the tests of a plan as a whole in plain terms
 pub mod Plans
 -- the tests of a step in plain terms

@@ -8,26 +8,25 @@ use native.Mathlib.Nat.{add-zero, zero-add, suc-add}
 use native.Mathlib.Omega.{arith}
 use lib.ListN.{length, take}
 use lib.Seq.{take-append-le}
-use Rattle.refusal.specs.Numbers.{unreadable_step}
 use Rattle.refusal.specs.Tests.{Test, test_at}
 use Rattle.plan.specs.declared.Plan.{Plan}
 use Rattle.plan.specs.declared.Step.{Step}
-use Rattle.plan.specs.declared.Read.{Read}
-use Rattle.plan.specs.declared.Read.TheVariants.{Found, Bad}
 use Rattle.plan.specs.Words.{read_at, read_then, decoded_from, decoded}
 use Rattle.plan.specs.Check.{step_tests, steps_tests}
 use Rattle.plan.proofs.Words.{readable_turn}
 use Rattle.plan.proofs.Places.{read_within, read_agree, moved, read_offset}
 use Rattle.plan.proofs.Answers.{alone}
+use Rattle.refusal.specs.declared.Reason.TheVariants.{UnreadableStep}
+use Rattle.std.specs.Prelude.{Some, None, Option}
 
 -- ---- where steps end
 
--- the place after the step that was read there, as `rest` goes on from it; that place itself where it is Bad
-abbrev pub end_then : ℕ → Read → (ℕ → ℕ) → ℕ
-end_then at (Found s next) rest = rest next
-end_then at Bad rest = at
+-- the place after the step that was read there, as `rest` goes on from it; that place itself where it is None
+abbrev pub end_then : ℕ → Option (Step × ℕ) → (ℕ → ℕ) → ℕ
+end_then at (Some (s, next)) rest = rest next
+end_then at None rest = at
 
--- the place after n steps from a place on, or that of the first that is Bad
+-- the place after n steps from a place on, or that of the first that is None
 abbrev pub end_from : List ℕ → ℕ → ℕ → ℕ
 end_from w zero at = at
 end_from w (suc n) at = end_then at (read_at w at) (λ next. end_from w n next)
@@ -83,20 +82,20 @@ module _ (xs ys : List ℕ) where
   steps_offset zero at = (refl, refl)
   steps_offset (suc m) at = rw (read_offset xs ys at) (go (read_at ys at) (λ next. steps_offset m next))
     where
-      go : (r : Read)
+      go : (r : Option (Step × ℕ))
           → ((next : ℕ) → (decoded_from (xs ++ ys) m (length xs + next) ≡ decoded_from ys m next)
           × (end_from (xs ++ ys) m (length xs + next) ≡ length xs + end_from ys m next))
           → (read_then (moved (length xs) r) (λ next. decoded_from (xs ++ ys) m next) ≡ read_then r (λ next. decoded_from ys m next))
           × (end_then (length xs + at) (moved (length xs) r) (λ next. end_from (xs ++ ys) m next) ≡ length xs + end_then at r (λ next. end_from ys m next))
-      go (Found s next) ih = (ap (λ (ss : List Step). s ∷ ss) (ih next).0, (ih next).1)
-      go Bad ih = (refl, refl)
+      go (Some (s, next)) ih = (ap (λ (ss : List Step). s ∷ ss) (ih next).0, (ih next).1)
+      go None ih = (refl, refl)
 
 -- ---- the tests, by the list of the steps that can be read
 
 -- the tests of n steps, of which the first is step `place` and those that can be read are listed
 abbrev pub tests_of : Plan → List ℕ → ℕ → ℕ → List Step → List Test
 tests_of p indices place zero ss = []
-tests_of p indices place (suc n) [] = test_at place unreadable_step true ∷ []
+tests_of p indices place (suc n) [] = test_at place UnreadableStep true ∷ []
 tests_of p indices place (suc n) (s ∷ ss) = alone p indices place s ++ tests_of p indices (place + 1) n ss
 
 module _ (p : Plan) (indices : List ℕ) where
@@ -105,11 +104,11 @@ module _ (p : Plan) (indices : List ℕ) where
   tests_listed w zero at place = refl
   tests_listed w (suc n) at place = go (read_at w at) (λ next. tests_listed w n next (place + 1))
     where
-      go : (r : Read) → ((next : ℕ) → steps_tests p indices w n next (place + 1) ≡ tests_of p indices (place + 1) n (decoded_from w n next))
+      go : (r : Option (Step × ℕ)) → ((next : ℕ) → steps_tests p indices w n next (place + 1) ≡ tests_of p indices (place + 1) n (decoded_from w n next))
           → step_tests p indices place r (λ next. steps_tests p indices w n next (place + 1))
           ≡ tests_of p indices place (suc n) (read_then r (λ next. decoded_from w n next))
-      go (Found s next) ih = ap (λ (ts : List Test). alone p indices place s ++ ts) (ih next)
-      go Bad ih = refl
+      go (Some (s, next)) ih = ap (λ (ts : List Test). alone p indices place s ++ ts) (ih next)
+      go None ih = refl
 
   pub tests_append : (ss ts : List Step) (m place : ℕ)
       → tests_of p indices place (length ss + m) (ss ++ ts) ≡ tests_of p indices place (length ss) ss ++ tests_of p indices (place + length ss) m ts

@@ -8,14 +8,13 @@ use lib.ListN.{length}
 use Rattle.refusal.specs.Tests.{Test, NoneHolds}
 use Rattle.plan.specs.declared.Plan.{Plan}
 use Rattle.plan.specs.declared.Step.{Step}
-use Rattle.plan.specs.declared.Read.{Read}
-use Rattle.plan.specs.declared.Read.TheVariants.{Found, Bad}
 use Rattle.plan.specs.Words.{read_at, decoded_from}
 use Rattle.plan.specs.Check.{step_tests, steps_tests}
 use Rattle.plan.specs.Sound.{Inside, Narrow, Apart, Placed, IndexList, Each, Passes}
 use Rattle.plan.proofs.Words.{decoded_on, readable_turn}
 use Rattle.plan.proofs.Spans.{names}
 use Rattle.plan.proofs.Steps.{outside_none, wide_none, shares_none, inside_by}
+use Rattle.std.specs.Prelude.{Some, None, Option}
 
 -- a list of n steps that are sound
 pub record All (p : Plan) (indices : List ℕ) (n : ℕ) (ss : List Step) : Type 0 where
@@ -29,7 +28,7 @@ module _ (p : Plan) (indices w : List ℕ) where
   record Turn (n at : ℕ) : Type 0 where
     step : Step
     next : ℕ
-    read : read_at w at ≡ Found step next
+    read : read_at w at ≡ Some (step, next)
     inside : Inside p step
     narrow : Narrow step
     apart : Apart indices step
@@ -58,9 +57,9 @@ module _ (p : Plan) (indices w : List ℕ) where
       rest : ℕ → List Test
       rest next = steps_tests p indices w n next (place + 1)
 
-      go : (r : Read) → read_at w at ≡ r → NoneHolds (step_tests p indices place r rest) → ((next : ℕ) → NoneHolds (rest next) → All p indices n (decoded_from w n next))
+      go : (r : Option (Step × ℕ)) → read_at w at ≡ r → NoneHolds (step_tests p indices place r rest) → ((next : ℕ) → NoneHolds (rest next) → All p indices n (decoded_from w n next))
           → All p indices (suc n) (decoded_from w (suc n) at)
-      go (Found s next) e h ih =
+      go (Some (s, next)) e h ih =
           let a = ih next h.1.1.1.1 in
           subst (All p indices (suc n)) (sym (decoded_on w at {left = suc n} {more = n} refl e))
           (record {
@@ -69,14 +68,14 @@ module _ (p : Plan) (indices w : List ℕ) where
             narrow = ((wide_none s).0 h.1.1.0, a.narrow);
             apart = ((shares_none indices s).0 h.1.1.1.0, a.apart);
           })
-      go Bad e h ih = absurd (true≢false h.0)
+      go None e h ih = absurd (true≢false h.0)
 
   pub all_none : (n at place : ℕ) → All p indices n (decoded_from w n at) → NoneHolds (steps_tests p indices w n at place)
   unfolding steps_tests
   all_none zero at place a = tt
   all_none (suc n) at place a =
       let t = turn n at a in
-      subst (λ (r : Read). NoneHolds (step_tests p indices place r (λ next. steps_tests p indices w n next (place + 1)))) (sym t.read) (
+      subst (λ (r : Option (Step × ℕ)). NoneHolds (step_tests p indices place r (λ next. steps_tests p indices w n next (place + 1)))) (sym t.read) (
         refl,
         (
           (outside_none p t.step).1 t.inside,

@@ -13,14 +13,13 @@ use lib.Count.{ones}
 use lib.Dec.{ltb, leb, eqb}
 use borrow.Author.Tests.{ltb-true, ltb-false, leb-true, leb-false, le-leb, lt-leb}
 use Rattle.plan.specs.declared.Step.{Step}
-use Rattle.plan.specs.declared.Read.{Read}
-use Rattle.plan.specs.declared.Read.TheVariants.{Found, Bad}
 use Rattle.plan.specs.Words.{patch_map, gain_map, matrix_map, clear_map, send_map, output_map, fields, field, step_of, read_at, StepKind, kinds, map_of, fields_in, step_among}
 use Rattle.plan.specs.Records.{word, patch_at, gain_at, matrix_at, clear_at, send_at, output_at}
-use Rattle.plan.proofs.Words.{patch_fields, gain_fields, matrix_fields, clear_fields, send_fields, output_fields, read_past, read_cut, read_whole, read_unnamed, read_patch, read_gain, read_matrix, read_clear, read_send, read_output}
+use Rattle.plan.proofs.Words.{same_read, patch_fields, gain_fields, matrix_fields, clear_fields, send_fields, output_fields, read_past, read_cut, read_whole, read_unnamed, read_patch, read_gain, read_matrix, read_clear, read_send, read_output}
+use Rattle.std.specs.Prelude.{Some, None, Option}
 
 -- ---- the kind of a step that was read
-never : {X : Type 0} {s : Step} {next : ℕ} → Bad ≡ Found s next → X
+never : {X : Type 0} {s : Step} {next : ℕ} → ◌≡◌ {A = Option (Step × ℕ)} None (Some (s, next)) → X
 never e = let z : ◌≡◌ {A = ℕ} 0 1 = cc in absurd (omega arith)
 
 -- the step t of a map with n fields
@@ -39,17 +38,17 @@ pub data Kind (w : List ℕ) (at : ℕ) (s : Step) (next : ℕ) : Type 0 where
   output : Is w at s next output_map (output_at w at) 3 → Kind w at s next
 
 -- by a table of any kinds a record ends where the fields of its map do
-among_next : (w : List ℕ) (at map : ℕ) (ks : List StepKind) {s : Step} {next : ℕ} → step_among ks w at map ≡ Found s next → next ≡ at + (1 + fields map)
+among_next : (w : List ℕ) (at map : ℕ) (ks : List StepKind) {s : Step} {next : ℕ} → step_among ks w at map ≡ Some (s, next) → next ≡ at + (1 + fields map)
 unfolding step_among
 among_next w at map [] e = never e
 among_next w at map (k ∷ ks) {s} {next} e = go (eqb map (map_of k.bits)) e (among_next w at map ks)
   where
-    go : (b : Bool) → cond b (Found (k.made (field w at map)) (at + (1 + fields map))) (step_among ks w at map) ≡ Found s next
-        → (step_among ks w at map ≡ Found s next → next ≡ at + (1 + fields map)) → next ≡ at + (1 + fields map)
-    go true e rest = cc
+    go : (b : Bool) → cond b (Some (k.made (field w at map), at + (1 + fields map))) (step_among ks w at map) ≡ Some (s, next)
+        → (step_among ks w at map ≡ Some (s, next) → next ≡ at + (1 + fields map)) → next ≡ at + (1 + fields map)
+    go true e rest = sym (same_read e).1
     go false e rest = rest e
 
-module _ (w : List ℕ) (at : ℕ) {s : Step} {next : ℕ} (r : read_at w at ≡ Found s next) where
+module _ (w : List ℕ) (at : ℕ) {s : Step} {next : ℕ} (r : read_at w at ≡ Some (s, next)) where
   -- the map's fields are all there
   whole : at + (1 + fields (word w at)) ≤ length w
   whole = go (ltb at (length w)) (leb (at + (1 + fields (word w at))) (length w)) refl refl
@@ -59,12 +58,12 @@ module _ (w : List ℕ) (at : ℕ) {s : Step} {next : ℕ} (r : read_at w at ≡
       go false false p q = never (sym (read_past w at (ltb-false at (length w) p)) ∙ r)
       go true false p q = never (sym (read_cut w at (ltb-true at (length w) p) (leb-false (at + (1 + fields (word w at))) (length w) q)) ∙ r)
 
-  of_kind : {map n : ℕ} {t : Step} → fields map ≡ n → (word w at ≡ map → at + n < length w → read_at w at ≡ Found t (at + (1 + n)))
+  of_kind : {map n : ℕ} {t : Step} → fields map ≡ n → (word w at ≡ map → at + n < length w → read_at w at ≡ Some (t, at + (1 + n)))
       → word w at ≡ map → Is w at s next map t n
   of_kind {map} {n} {t} e law m =
       let h : at + n < length w = omega (arith, whole, ap fields m ∙ e) in
-      let q : Found s next ≡ Found t (at + (1 + n)) = sym r ∙ law m h in
-      record { first = m; step = cc; after = cc }
+      let q = same_read (sym r ∙ law m h) in
+      record { first = m; step = q.0; after = q.1 }
 
   pub read_kind : Kind w at s next
   read_kind =
@@ -93,7 +92,7 @@ module _ (w : List ℕ) (at : ℕ) {s : Step} {next : ℕ} (r : read_at w at ≡
 
 -- ---- words that agree up to n
 -- the words of a record are the same in both, and so is its step
-module _ (v w : List ℕ) (n : ℕ) (e : take n v ≡ take n w) (at : ℕ) {s : Step} {next : ℕ} (r : read_at v at ≡ Found s next) (h : next ≤ n) where
+module _ (v w : List ℕ) (n : ℕ) (e : take n v ≡ take n w) (at : ℕ) {s : Step} {next : ℕ} (r : read_at v at ≡ Some (s, next)) (h : next ≤ n) where
   same : (i : ℕ) → at + i < next → word v (at + i) ≡ word w (at + i)
   same i l =
       let k : at + i < n = omega arith in
@@ -102,17 +101,17 @@ module _ (v w : List ℕ) (n : ℕ) (e : take n v ≡ take n w) (at : ℕ) {s : 
   reaches : next ≤ length w
   reaches = omega (arith, read_within v at r, length-take n v, length-take n w, ap length e)
 
-  as_there : {map n : ℕ} {t u : Step} → Is v at s next map t n → (word w at ≡ map → at + n < length w → read_at w at ≡ Found u (at + (1 + n))) → t ≡ u
-      → read_at w at ≡ Found s next
+  as_there : {map n : ℕ} {t u : Step} → Is v at s next map t n → (word w at ≡ map → at + n < length w → read_at w at ≡ Some (u, at + (1 + n))) → t ≡ u
+      → read_at w at ≡ Some (s, next)
   as_there {map} {n} {t} {u} k law q =
       let m : word v at ≡ word w at = rw add-zero at (same 0 (omega (arith, read_within v at r))) in
       let f = law (sym m ∙ k.first) (omega (arith, reaches)) in
       cc (k.step, k.after)
 
-  pub read_agree : read_at w at ≡ Found s next
+  pub read_agree : read_at w at ≡ Some (s, next)
   read_agree = go (read_kind v at r)
     where
-      go : Kind v at s next → read_at w at ≡ Found s next
+      go : Kind v at s next → read_at w at ≡ Some (s, next)
       go (patch i) = as_there i (read_patch w at) (cc (same 1 (omega arith), same 2 (omega arith), same 3 (omega arith)))
       go (gain i) = as_there i (read_gain w at) (cc (same 1 (omega arith), same 2 (omega arith), same 3 (omega arith), same 4 (omega arith), same 5 (omega arith)))
       go (matrix i) = as_there i (read_matrix w at) (cc (same 1 (omega arith), same 2 (omega arith), same 3 (omega arith), same 4 (omega arith), same 5 (omega arith)))
@@ -123,21 +122,21 @@ module _ (v w : List ℕ) (n : ℕ) (e : take n v ≡ take n w) (at : ℕ) {s : 
       go (output i) = as_there i (read_output w at) (cc (same 1 (omega arith), same 2 (omega arith), same 3 (omega arith)))
 
 -- more words after those that hold the step
-pub read_append : (w more : List ℕ) (at : ℕ) {s : Step} {next : ℕ} → read_at w at ≡ Found s next → read_at (w ++ more) at ≡ Found s next
+pub read_append : (w more : List ℕ) (at : ℕ) {s : Step} {next : ℕ} → read_at w at ≡ Some (s, next) → read_at (w ++ more) at ≡ Some (s, next)
 read_append w more at r =
     read_agree w (w ++ more) (length w) (sym (take-append-le (length w) w more (omega arith))) at r (read_within w at r).1
 
 -- ---- words before it
 -- what was read, k places further on
-abbrev pub moved : ℕ → Read → Read
-moved k (Found s next) = Found s (k + next)
-moved k Bad = Bad
+abbrev pub moved : ℕ → Option (Step × ℕ) → Option (Step × ℕ)
+moved k (Some (s, next)) = Some (s, k + next)
+moved k None = None
 
-moved_cond : (k : ℕ) (b : Bool) (u v : Read) {x y : Read} → x ≡ moved k u → y ≡ moved k v → cond b x y ≡ moved k (cond b u v)
+moved_cond : (k : ℕ) (b : Bool) (u v : Option (Step × ℕ)) {x y : Option (Step × ℕ)} → x ≡ moved k u → y ≡ moved k v → cond b x y ≡ moved k (cond b u v)
 moved_cond k true u v p q = p
 moved_cond k false u v p q = q
 
-moved_found : (k at n : ℕ) {s t : Step} → s ≡ t → Found s (k + at + n) ≡ moved k (Found t (at + n))
+moved_found : (k at n : ℕ) {s t : Step} → s ≡ t → (Some (s, k + at + n)) ≡ moved k (Some (t, at + n))
 moved_found k at n e = rw (e, add_assoc)
 
 shift_leb : (k a b c d : ℕ) → c ≡ k + a → d ≡ k + b → leb c d ≡ leb a b
@@ -184,5 +183,5 @@ module _ (xs ys : List ℕ) (at : ℕ) where
       cc (here, whole, step) ∙ moved_cond k (ltb at (length ys)) _ _ (moved_cond k (leb (at + n) (length ys)) _ _ refl refl) refl
 
 -- a step that starts the second list
-pub read_seam : (xs ys : List ℕ) {s : Step} {next : ℕ} → read_at ys 0 ≡ Found s next → read_at (xs ++ ys) (length xs) ≡ Found s (length xs + next)
+pub read_seam : (xs ys : List ℕ) {s : Step} {next : ℕ} → read_at ys 0 ≡ Some (s, next) → read_at (xs ++ ys) (length xs) ≡ Some (s, length xs + next)
 read_seam xs ys r = ap (read_at (xs ++ ys)) (sym (add-zero (length xs))) ∙ read_offset xs ys 0 ∙ ap (moved (length xs)) r

@@ -1,22 +1,18 @@
 -- The plan check: one ordered list of tests, in document 01's order, of which the first that holds answers. Definitions only.
-use Rattle.std.specs.Prelude.{ℕ, zero, suc, ◌+◌, ◌*◌, min, Bool, true, false, ◌||◌, List, [], ◌∷◌, take, ltb, leb, eqb}
+use Rattle.std.specs.Prelude.{Ok, ℕ, zero, suc, ◌+◌, ◌*◌, min, Bool, true, false, ◌||◌, List, [], ◌∷◌, take, ltb, leb, eqb, Some, None, Option}
 use Rattle.lists.specs.Parts.{part}
 use Rattle.lists.specs.Entries.{some_from, meet}
-use Rattle.refusal.specs.Numbers.{block_length, short_area, unreadable_step, outside_table, over_limit, shared_buffer, too_many_values, id_taken}
-use Rattle.refusal.specs.Tests.{Test, test, test_at, first}
-use Rattle.refusal.specs.declared.Answer.{Answer}
-use Rattle.refusal.specs.declared.Answer.TheVariants.{Accepted}
+use Rattle.refusal.specs.Tests.{Test, test, test_at, first, Answer}
 use Rattle.node.specs.Sizes.{max_values}
 use Rattle.node.specs.Areas.{id_at}
 use Rattle.plan.specs.declared.Plan.{Plan}
 use Rattle.plan.specs.declared.Span.{Span}
 use Rattle.plan.specs.declared.Step.{Step}
 use Rattle.plan.specs.declared.Step.TheVariants.{Patch, Gain, Matrix, Clear, Send, Output}
-use Rattle.plan.specs.declared.Read.{Read}
-use Rattle.plan.specs.declared.Read.TheVariants.{Found, Bad}
 use Rattle.plan.specs.Limits.{inputs, slots, unit_limits, bad_block, over_limits}
 use Rattle.plan.specs.Words.{read_at}
 use Rattle.plan.specs.Areas.{Areas, short_areas}
+use Rattle.refusal.specs.declared.Reason.TheVariants.{BlockLength, IdTaken, OutsideTable, OverLimit, SharedBuffer, ShortArea, TooManyValues, UnreadableStep}
 
 -- ---- the tests of the plan as a whole
 
@@ -80,14 +76,14 @@ shares indices (Output s o) = false
 -- ---- the check: 1, 5, 2, index entries (4), a node id held twice (8), then each step in turn 3, 4, 7, 6
 
 -- the tests of step `place` as it was read, and then those that `rest` gives from the next place of the words on
-abbrev pub step_tests : Plan → List ℕ → ℕ → Read → (ℕ → List Test) → List Test
-step_tests p indices place (Found s next) rest =
-    test_at place unreadable_step false
-    ∷ test_at place outside_table (outside p s)
-    ∷ test_at place too_many_values (too_wide s)
-    ∷ test_at place shared_buffer (shares indices s)
+abbrev pub step_tests : Plan → List ℕ → ℕ → Option (Step × ℕ) → (ℕ → List Test) → List Test
+step_tests p indices place (Some (s, next)) rest =
+    test_at place UnreadableStep false
+    ∷ test_at place OutsideTable (outside p s)
+    ∷ test_at place TooManyValues (too_wide s)
+    ∷ test_at place SharedBuffer (shares indices s)
     ∷ rest next
-step_tests p indices place Bad rest = test_at place unreadable_step true ∷ []
+step_tests p indices place None rest = test_at place UnreadableStep true ∷ []
 
 -- those of n steps from a place of the words on, of which the first is step `place`
 unfoldable pub steps_tests : Plan → List ℕ → List ℕ → ℕ → ℕ → ℕ → List Test
@@ -97,15 +93,15 @@ steps_tests p indices w (suc n) at place = step_tests p indices place (read_at w
 -- `short` says whether an area that the call was lent is too short
 abbrev pub plan_tests : Plan → Bool → List ℕ → List ℕ → List ℕ → List Test
 plan_tests p short indices words steps =
-    test block_length (bad_block p.block)
-    ∷ test over_limit (over_limits unit_limits p)
-    ∷ test short_area short
-    ∷ test outside_table (some_from p.buffers (take p.indices indices))
-    ∷ test id_taken (id_twice words p.nodes)
+    test BlockLength (bad_block p.block)
+    ∷ test OverLimit (over_limits unit_limits p)
+    ∷ test ShortArea short
+    ∷ test OutsideTable (some_from p.buffers (take p.indices indices))
+    ∷ test IdTaken (id_twice words p.nodes)
     ∷ steps_tests p indices (take p.words steps) p.steps 0 1
 
 unfoldable pub checked : Plan → Bool → List ℕ → List ℕ → List ℕ → Answer
-checked p short indices words steps = first (plan_tests p short indices words steps) Accepted
+checked p short indices words steps = first (plan_tests p short indices words steps) (Ok tt)
 
 -- the plan check as a call of its own, which is lent all six areas
 abbrev pub check_plan : Plan → Areas → Answer

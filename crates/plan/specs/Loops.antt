@@ -1,12 +1,10 @@
 -- What the loops of the check go by, what it counts, and what a step has as it was read: its slot and its channels. Definitions only.
-use Rattle.std.specs.Prelude.{ℕ, ◌+◌, ◌*◌, ◌<◌, Bool, List, [], ◌∷◌, leb, get_or}
-use Rattle.refusal.specs.Tests.{outcome}
-use Rattle.refusal.specs.declared.Answer.{Answer}
+use Rattle.std.specs.Prelude.{ℕ, ◌+◌, ◌*◌, ◌<◌, Bool, List, [], ◌∷◌, leb, get_or, Ok, Err, Result}
+use Rattle.refusal.specs.Tests.{outcome, Answer}
 use Rattle.plan.specs.declared.Span.{Span}
 use Rattle.plan.specs.declared.Step.{Step}
 use Rattle.plan.specs.declared.Step.TheVariants.{Patch, Gain, Matrix, Clear, Send, Output}
-use Rattle.plan.specs.declared.Counted.{Counted}
-use Rattle.plan.specs.declared.Counted.TheVariants.{Channels, Refused}
+use Rattle.refusal.specs.declared.Refusal.{Refusal}
 
 -- n entries of a list, each so many places after the one before it, ascend: no two are the same
 abbrev pub Ascending : ℕ → ℕ → List ℕ → Type 0
@@ -39,5 +37,5 @@ channels_of [] = 0
 channels_of (x ∷ xs) = channels x + channels_of xs
 
 -- an answer, with the channels where it is an acceptance
-abbrev pub counted : Answer → ℕ → Counted
-counted answer n = outcome answer (Channels n) Refused
+abbrev pub counted : Answer → ℕ → Result ℕ Refusal
+counted answer n = outcome answer (Ok n) Err

@@ -1,6 +1,6 @@
 -- What a plan is that the check accepts, condition by condition, each beside the number that is answered where it fails. The check accepts
 -- exactly the sound plans (proofs/Exact.antt). Definitions only.
-use Rattle.std.specs.Prelude.{ℕ, zero, suc, ◌+◌, ◌*◌, ◌≤◌, ◌<◌, ◌≡◌, Bool, false, List, [], ◌∷◌, length, get_or, take}
+use Rattle.std.specs.Prelude.{ℕ, zero, suc, ◌+◌, ◌*◌, ◌≤◌, ◌<◌, ◌≡◌, Bool, false, List, [], ◌∷◌, length, get_or, take, Some}
 use Rattle.lists.specs.Entries.{some_from, Disjoint}
 use Rattle.node.specs.Sizes.{max_values}
 use Rattle.node.specs.Areas.{id_at}
@@ -8,7 +8,6 @@ use Rattle.plan.specs.declared.Plan.{Plan}
 use Rattle.plan.specs.declared.Span.{Span}
 use Rattle.plan.specs.declared.Step.{Step}
 use Rattle.plan.specs.declared.Step.TheVariants.{Patch, Gain, Matrix, Clear, Send, Output}
-use Rattle.plan.specs.declared.Read.TheVariants.{Found}
 use Rattle.plan.specs.Limits.{max_block, inputs, slots, unit_limits}
 use Rattle.plan.specs.Words.{read_at, decoded}
 use Rattle.plan.specs.Check.{named, used, first_of}
@@ -108,7 +107,7 @@ pub record Sound (p : Plan) (short : Bool) (indices words steps : List ℕ) : Ty
 pub record Pass (p : Plan) (indices w : List ℕ) (at : ℕ) (Rest : ℕ → Type 0) : Type 0 where
   pub step : Step
   pub next : ℕ
-  pub read : read_at w at ≡ Found step next
+  pub read : read_at w at ≡ Some (step, next)
   pub placed : Placed p indices step
   pub narrow : Narrow step
   pub apart : Apart indices step

@@ -1,12 +1,10 @@
 -- The step words: a map, then one word for each of its bits that has a field, lowest bit first. What stands at a place, and the list of
 -- the first n steps. Definitions only.
-use Rattle.std.specs.Prelude.{ℕ, zero, suc, ◌+◌, ◌%◌, ◌^◌, cond, List, [], ◌∷◌, length, get_or, ltb, leb, eqb}
+use Rattle.std.specs.Prelude.{ℕ, zero, suc, ◌+◌, ◌%◌, ◌^◌, cond, List, [], ◌∷◌, length, get_or, ltb, leb, eqb, Some, None, Option}
 use Rattle.std.specs.Int.Count.{ones}
 use Rattle.plan.specs.declared.Span.{Span}
 use Rattle.plan.specs.declared.Step.{Step}
 use Rattle.plan.specs.declared.Step.TheVariants.{Patch, Gain, Matrix, Clear, Send, Output}
-use Rattle.plan.specs.declared.Read.{Read}
-use Rattle.plan.specs.declared.Read.TheVariants.{Found, Bad}
 
 -- ---- the bits of a map
 
@@ -133,29 +131,29 @@ abbrev pub field : List ℕ → ℕ → ℕ → ℕ → ℕ
 field w at map b = get_or w (at + (1 + ones (fields_in map % 2 ^ b))) 0
 
 -- the step of a map that one of a list of kinds has, and the place after its record
-unfoldable pub step_among : List StepKind → List ℕ → ℕ → ℕ → Read
-step_among [] w at map = Bad
-step_among (k ∷ ks) w at map = cond (eqb map (map_of k.bits)) (Found (k.made (field w at map)) (at + (1 + fields map))) (step_among ks w at map)
+unfoldable pub step_among : List StepKind → List ℕ → ℕ → ℕ → Option (Step × ℕ)
+step_among [] w at map = None
+step_among (k ∷ ks) w at map = cond (eqb map (map_of k.bits)) (Some (k.made (field w at map), at + (1 + fields map))) (step_among ks w at map)
 
-unfoldable pub step_of : List ℕ → ℕ → ℕ → Read
+unfoldable pub step_of : List ℕ → ℕ → ℕ → Option (Step × ℕ)
 unfolding step_among
 step_of w at map = step_among kinds w at map
 
--- What stands at a place: a step and the place after it; or Bad, where the map or a field is past the end or the map is not named.
-unfoldable pub read_at : List ℕ → ℕ → Read
+-- What stands at a place: a step and the place after it; or None, where the map or a field is past the end or the map is not named.
+unfoldable pub read_at : List ℕ → ℕ → Option (Step × ℕ)
 read_at w at =
     cond (ltb at (length w))
-    (cond (leb (at + (1 + fields (get_or w at 0))) (length w)) (step_of w at (get_or w at 0)) Bad)
-    Bad
+    (cond (leb (at + (1 + fields (get_or w at 0))) (length w)) (step_of w at (get_or w at 0)) None)
+    None
 
 -- ---- the list of steps
 
--- the step that was read, and the steps that `rest` gives from the next place on; none where it is Bad
-abbrev pub read_then : Read → (ℕ → List Step) → List Step
-read_then (Found s next) rest = s ∷ rest next
-read_then Bad rest = []
+-- the step that was read, and the steps that `rest` gives from the next place on; none where it is None
+abbrev pub read_then : Option (Step × ℕ) → (ℕ → List Step) → List Step
+read_then (Some (s, next)) rest = s ∷ rest next
+read_then None rest = []
 
--- the steps from a place on, n at most, up to the first that is Bad
+-- the steps from a place on, n at most, up to the first that is None
 unfoldable pub decoded_from : List ℕ → ℕ → ℕ → List Step
 decoded_from w zero at = []
 decoded_from w (suc n) at = read_then (read_at w at) (λ next. decoded_from w n next)

@@ -2,11 +2,9 @@
 // are defined here, with the laws of both. There is no code here: crates `plan_reader`, `plan_steps`, `plan_areas` and `plan_check` have it.
 #![tactic(auto)]
 
-use refusal::Refusal;
-
 // A plan's block and counts, which go with its lent areas. `words` counts the step words.
 #[repr(C)]
-#[derive(Clone, Copy)]
+#[derive(Clone, Copy, Debug, PartialEq, Eq)]
 pub struct Plan {
     pub block: usize,
     pub buffers: usize,
@@ -18,7 +16,7 @@ pub struct Plan {
 }
 
 // The most that a plan may have of each; step words have no limit of their own.
-#[derive(Clone, Copy)]
+#[derive(Clone, Copy, Debug, PartialEq, Eq)]
 pub struct Limits {
     pub buffers: usize,
     pub indices: usize,
@@ -29,14 +27,14 @@ pub struct Limits {
 
 // A run of entries in the index list or in the coefficients.
 #[repr(C)]
-#[derive(Clone, Copy)]
+#[derive(Clone, Copy, Debug, PartialEq, Eq)]
 pub struct Span {
     pub start: u32,
     pub len: u32,
 }
 
 // One step of a plan. Buffer lists are spans of the index list.
-#[derive(Clone, Copy)]
+#[derive(Clone, Copy, Debug, PartialEq, Eq)]
 pub enum Step {
     Patch {
         input: u32,
@@ -66,20 +64,6 @@ pub enum Step {
         src: Span,
         slot: u32,
     },
-}
-
-// A step that was read, and the place after it; or none.
-#[derive(Clone, Copy)]
-pub enum Read {
-    Found(Step, usize),
-    Bad,
-}
-
-// The answer of a check that counts: the channels that the steps append to the output.
-#[derive(Clone, Copy)]
-pub enum Counted {
-    Channels(usize),
-    Refused(Refusal),
 }
 
 impl Plan {

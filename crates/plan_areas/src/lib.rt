@@ -32,13 +32,11 @@ pub fn over_limits(plan: Plan) -> bool
 }
 
 // n < count * each, for counts of any size.
+#[tactic(auto, using(plan::proofs::Plans::shorter_each))]
 pub fn shorter(n: usize, count: usize, each: usize) -> bool
     ensures { result ≡ shorter n count each }
 {
-    if each == 0 {
-        return false;
-    }
-    n / each < count
+    each != 0 && n / each < count
 }
 
 // Number 2 of a call that is lent these three areas.
@@ -74,14 +72,7 @@ pub fn short_areas(
 pub fn some_from(n: usize, entries: &[u32]) -> bool
     ensures { result ≡ some_from n entries.now }
 {
-    let mut i = 0;
-    while i < entries.len() {
-        if entries[i] as usize >= n {
-            return true;
-        }
-        i += 1;
-    }
-    false
+    entries.iter().any(|entry| *entry as usize >= n)
 }
 
 // One of the first n nodes has the id. Requires the words of all n.
@@ -89,9 +80,7 @@ pub fn id_among(words: &[u32], n: usize, id: u32) -> bool
     requires { n * node_word_count ≤ length words.now }
     ensures { result ≡ id_among words.now n id }
 {
-    let mut i = n;
-    while i > 0 {
-        i -= 1;
+    for i in (0..n).rev() {
         if node_areas::id_of(words, i) == id {
             return true;
         }
@@ -104,12 +93,10 @@ pub fn ascend(list: &[u32], n: usize, each: usize) -> bool
     requires { (n * each ≤ length list.now) × (0 < each) }
     ensures { result ≡ true → Ascending each n list.now }
 {
-    let mut i = 1;
-    while i < n {
+    for i in 1..n {
         if list[(i - 1) * each] >= list[i * each] {
             return false;
         }
-        i += 1;
     }
     true
 }
@@ -123,9 +110,7 @@ pub fn id_twice(words: &[u32], n: usize) -> bool
     if ascend(words, n, Node::WORDS) {
         return false;
     }
-    let mut later = n;
-    while later > 0 {
-        later -= 1;
+    for later in (0..n).rev() {
         if id_among(words, later, node_areas::id_of(words, later)) {
             return true;
         }

@@ -1,94 +1,96 @@
 // The plan check, which is added to what the Rust has.
 #![tactic(auto)]
 
-ghost use Rattle.std.specs.Prelude.{◌≡◌, true, false, [], ◌≤◌};
+ghost use Rattle.std.specs.Prelude.{◌≡◌, false, [], ◌≤◌, Ok, Some};
 ghost use Rattle.refusal.specs.Tests.{first};
 ghost use Rattle.plan.specs.Limits.{unit_limits};
 ghost use Rattle.plan.specs.Words.{decoded};
 ghost use Rattle.plan.specs.Areas.{areas, short_lists};
 ghost use Rattle.plan.specs.Check.{step_tests, steps_tests, checked, check_plan};
-ghost use Rattle.plan.specs.Sound.{IndexList, steps_of};
-ghost use Rattle.plan.specs.Loops.{Ascending, channels_of, counted};
+ghost use Rattle.plan.specs.Sound.{steps_of};
+ghost use Rattle.plan.specs.Loops.{channels_of, counted};
 
-use plan::{Counted, Plan, Read, Step};
+use plan::{Plan, Step};
 use plan_areas::{ascend, bad_block, id_twice, over_limits, short_areas, short_lists, some_from};
 use plan_reader::read_step;
+use plan_steps::indices::Indices;
 use plan_steps::{step_channels, step_outside, step_shares, step_wide};
-use refusal::{Answer, Refusal};
+use refusal::{Answer, Reason, Refusal};
 
-// One step that was read, at its place from 1. Requires an index list that was tested, and that ascends where it is said to.
-fn check_step(plan: Plan, indices: &[u32], ascending: bool, step: Step, place: u32) -> Answer
-    requires { IndexList plan indices.now × (ascending ≡ true → Ascending 1 plan.indices indices.now) }
-    ensures { result ≡ first (step_tests plan indices.now place (Read.Found step 0) (λ _. [])) Answer.Accepted }
+// One step that was read, at its place from 1.
+fn check_step(indices: Indices<'_>, step: Step, place: u32) -> Answer
+    ensures { result ≡ first (step_tests indices.entry.plan indices.entry.list.now place (Some (step, 0)) (λ _. [])) (Ok tt) }
 {
-    if step_outside(plan, step) {
-        return Answer::Refused(Refusal::at(Refusal::OUTSIDE_TABLE, place));
+    if step_outside(indices.plan, step) {
+        return Err(Refusal::at(Reason::OutsideTable, place));
     }
     if step_wide(step) {
-        return Answer::Refused(Refusal::at(Refusal::TOO_MANY_VALUES, place));
+        return Err(Refusal::at(Reason::TooManyValues, place));
     }
-    if step_shares(plan, indices, ascending, step) {
-        return Answer::Refused(Refusal::at(Refusal::SHARED_BUFFER, place));
+    if step_shares(indices, step) {
+        return Err(Refusal::at(Reason::SharedBuffer, place));
     }
-    Answer::Accepted
+    Ok(())
 }
 
-// The steps of the step words, each in turn. Requires an index list that was tested, and that ascends where it is said to, and steps within
-// their limit.
-fn check_steps(plan: Plan, indices: &[u32], ascending: bool, words: &[u32]) -> Counted
-    requires { IndexList plan indices.now × (plan.steps ≤ unit_limits.steps) × (ascending ≡ true → Ascending 1 plan.indices indices.now) }
-    ensures { result ≡ counted (first (steps_tests plan indices.now words.now plan.steps 0 1) Answer.Accepted) (channels_of (decoded words.now plan.steps)) }
+// The steps of the step words, each in turn. Requires steps within their limit.
+fn check_steps(indices: Indices<'_>, words: &[u32]) -> Result<usize, Refusal>
+    requires { indices.plan.steps ≤ unit_limits.steps }
+    ensures { result ≡ counted (first (steps_tests indices.entry.plan indices.entry.list.now words.now indices.entry.plan.steps 0 1) (Ok tt)) (channels_of (decoded words.now indices.entry.plan.steps)) }
 {
-    let n = plan.steps;
     let mut total = 0;
     let mut at = 0;
-    let mut i = 0;
-    while i < n {
+    for i in 0..indices.plan.steps {
         let place = (i + 1) as u32;
-        let Read::Found(step, next) = read_step(words, at) else {
-            return Counted::Refused(Refusal::at(Refusal::UNREADABLE_STEP, place));
+        let Some((step, next)) = read_step(words, at) else {
+            return Err(Refusal::at(Reason::UnreadableStep, place));
         };
-        if let Answer::Refused(r) = check_step(plan, indices, ascending, step, place) {
-            return Counted::Refused(r);
-        }
+        check_step(indices, step, place)?;
         total += step_channels(step) as usize;
         at = next;
-        i += 1;
     }
-    Counted::Channels(total)
+    Ok(total)
 }
 
 // The plan check of a call that found out by itself whether one of its areas is too short, with the channels of the steps. Requires that `short`
 // is true where one of these three lists is too short.
+#[tactic(auto, unfolding(plan::specs::Check::checked))]
 fn check_counting(
     plan: Plan,
     short: bool,
     indices: &[u32],
     node_words: &[u32],
     steps: &[u32],
-) -> Counted
+) -> Result<usize, Refusal>
     requires { short ≡ false → short_lists plan indices.now node_words.now steps.now ≡ false }
     ensures { result ≡ counted (checked plan short indices.now node_words.now steps.now) (channels_of (steps_of plan steps.now)) }
 {
     if bad_block(plan.block) {
-        return Counted::Refused(Refusal::of(Refusal::BLOCK_LENGTH));
+        return Err(Reason::BlockLength.into());
     }
     if over_limits(plan) {
-        return Counted::Refused(Refusal::of(Refusal::OVER_LIMIT));
+        return Err(Reason::OverLimit.into());
     }
     if short {
-        return Counted::Refused(Refusal::of(Refusal::SHORT_AREA));
+        return Err(Reason::ShortArea.into());
     }
     let entries = plan.indices;
     if some_from(plan.buffers, &indices[..entries]) {
-        return Counted::Refused(Refusal::of(Refusal::OUTSIDE_TABLE));
+        return Err(Reason::OutsideTable.into());
     }
     if id_twice(node_words, plan.nodes) {
-        return Counted::Refused(Refusal::of(Refusal::ID_TAKEN));
+        return Err(Reason::IdTaken.into());
     }
     let ascending = ascend(indices, entries, 1);
     let words = plan.words;
-    check_steps(plan, indices, ascending, &steps[..words])
+    check_steps(
+        Indices {
+            plan,
+            list: indices,
+            ascending,
+        },
+        &steps[..words],
+    )
 }
 
 // The plan check of a call that is lent the index list, the node words and the step words.
@@ -96,10 +98,8 @@ pub fn check_lists(plan: Plan, indices: &[u32], node_words: &[u32], steps: &[u32
     ensures { result ≡ checked plan (short_lists plan indices.now node_words.now steps.now) indices.now node_words.now steps.now }
 {
     let short = short_lists(plan, indices, node_words, steps);
-    match check_counting(plan, short, indices, node_words, steps) {
-        Counted::Channels(_) => Answer::Accepted,
-        Counted::Refused(r) => Answer::Refused(r),
-    }
+    check_counting(plan, short, indices, node_words, steps)?;
+    Ok(())
 }
 
 // The plan check of a call that is lent all six areas, with the channels of the steps.
@@ -111,7 +111,7 @@ pub fn count_channels(
     node_words: &[u32],
     steps: &[u32],
     buffers: &[f32],
-) -> Counted
+) -> Result<usize, Refusal>
     ensures { result ≡ counted (check_plan plan (areas indices.now coefficients.now node_floats.now node_words.now steps.now buffers.now)) (channels_of (steps_of plan steps.now)) }
 {
     let short = short_areas(
@@ -138,7 +138,7 @@ pub fn check_plan(
 ) -> Answer
     ensures { result ≡ check_plan plan (areas indices.now coefficients.now node_floats.now node_words.now steps.now buffers.now) }
 {
-    match count_channels(
+    count_channels(
         plan,
         indices,
         coefficients,
@@ -146,8 +146,6 @@ pub fn check_plan(
         node_words,
         steps,
         buffers,
-    ) {
-        Counted::Channels(_) => Answer::Accepted,
-        Counted::Refused(r) => Answer::Refused(r),
-    }
+    )?;
+    Ok(())
 }

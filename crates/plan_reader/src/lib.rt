@@ -3,10 +3,21 @@
 #![tactic(auto)]
 
 ghost use Rattle.std.specs.Prelude.{◌≡◌, ◌+◌, ◌<◌, ◌≤◌, leb, length};
-ghost use Rattle.plan.specs.Words.{max_fields, fields, read_at};
-ghost use Rattle.plan.specs.Records.{patch_at, gain_at, matrix_at, clear_at, send_at, output_at};
+ghost use Rattle.plan.specs.Words.{span, max_fields, fields, read_at};
+ghost use Rattle.plan.specs.Records.{word, patch_at, gain_at, matrix_at, clear_at, send_at, output_at};
 
-use plan::{Read, Span, Step};
+use plan::{Span, Step};
+
+// The span whose two words stand from `at` on. Requires that both are there.
+fn span_at(words: &[u32], at: usize) -> Span
+    requires { at + 1 < length words.now }
+    ensures { result ≡ span (word words.now at) (word words.now (at + 1)) }
+{
+    Span {
+        start: words[at],
+        len: words[at + 1],
+    }
+}
 
 // The step of each kind whose map stands at `at`. Each requires that its fields are all there.
 fn patch_at(words: &[u32], at: usize) -> Step
@@ -24,18 +35,10 @@ fn gain_at(words: &[u32], at: usize) -> Step
     requires { at + 5 < length words.now }
     ensures { result ≡ gain_at words.now at }
 {
-    let src = Span {
-        start: words[at + 2],
-        len: words[at + 3],
-    };
-    let dst = Span {
-        start: words[at + 4],
-        len: words[at + 5],
-    };
     Step::Gain {
         node: words[at + 1],
-        src,
-        dst,
+        src: span_at(words, at + 2),
+        dst: span_at(words, at + 4),
     }
 }
 
@@ -43,18 +46,10 @@ fn matrix_at(words: &[u32], at: usize) -> Step
     requires { at + 5 < length words.now }
     ensures { result ≡ matrix_at words.now at }
 {
-    let src = Span {
-        start: words[at + 2],
-        len: words[at + 3],
-    };
-    let dst = Span {
-        start: words[at + 4],
-        len: words[at + 5],
-    };
     Step::Matrix {
         node: words[at + 1],
-        src,
-        dst,
+        src: span_at(words, at + 2),
+        dst: span_at(words, at + 4),
     }
 }
 
@@ -62,34 +57,20 @@ fn clear_at(words: &[u32], at: usize) -> Step
     requires { at + 2 < length words.now }
     ensures { result ≡ clear_at words.now at }
 {
-    let dst = Span {
-        start: words[at + 1],
-        len: words[at + 2],
-    };
-    Step::Clear { dst }
+    Step::Clear {
+        dst: span_at(words, at + 1),
+    }
 }
 
 fn send_at(words: &[u32], at: usize) -> Step
     requires { at + 7 < length words.now }
     ensures { result ≡ send_at words.now at }
 {
-    let src = Span {
-        start: words[at + 2],
-        len: words[at + 3],
-    };
-    let dst = Span {
-        start: words[at + 4],
-        len: words[at + 5],
-    };
-    let coefficients = Span {
-        start: words[at + 6],
-        len: words[at + 7],
-    };
     Step::Send {
         node: words[at + 1],
-        src,
-        dst,
-        coefficients,
+        src: span_at(words, at + 2),
+        dst: span_at(words, at + 4),
+        coefficients: span_at(words, at + 6),
     }
 }
 
@@ -97,12 +78,8 @@ fn output_at(words: &[u32], at: usize) -> Step
     requires { at + 3 < length words.now }
     ensures { result ≡ output_at words.now at }
 {
-    let src = Span {
-        start: words[at + 1],
-        len: words[at + 2],
-    };
     Step::Output {
-        src,
+        src: span_at(words, at + 1),
         slot: words[at + 3],
     }
 }
@@ -112,6 +89,7 @@ const NO_FIELD: u32 = 2048;
 
 const MAX_FIELDS: usize = 11;
 
+#[tactic(auto, using(plan::proofs::Words::fields_few))]
 pub fn field_count(map: u32) -> usize
     ensures { (result ≡ fields map) × (result ≤ max_fields) }
 {
@@ -119,6 +97,7 @@ pub fn field_count(map: u32) -> usize
 }
 
 // A record with this map is longer than the words that are left.
+#[tactic(auto, using(plan::proofs::Words::fields_few))]
 fn cut_off(map: u32, left: usize) -> bool
     ensures { result ≡ leb left (fields map) }
 {
@@ -130,39 +109,33 @@ fn cut_off(map: u32, left: usize) -> bool
 }
 
 // What stands at a place of the step words.
-pub fn read_step(words: &[u32], at: usize) -> Read
+#[tactic(auto, using(plan::proofs::Words::reads))]
+pub fn read_step(words: &[u32], at: usize) -> Option<(Step, usize)>
     ensures { result ≡ read_at words.now at }
 {
-    if at >= words.len() {
-        return Read::Bad;
-    }
-    let map = words[at];
+    let map = *words.get(at)?;
     if cut_off(map, words.len() - at) {
-        return Read::Bad;
+        return None;
     }
     // The place after the record is worked out from the arm's own map: it is then a constant, and the next read does not wait for the
     // count of this one.
     match map {
-        Step::PATCH_MAP => {
-            Read::Found(patch_at(words, at), at + (1 + field_count(Step::PATCH_MAP)))
-        }
-        Step::GAIN_MAP => Read::Found(gain_at(words, at), at + (1 + field_count(Step::GAIN_MAP))),
+        Step::PATCH_MAP => { Some((patch_at(words, at), at + (1 + field_count(Step::PATCH_MAP)))) }
+        Step::GAIN_MAP => Some((gain_at(words, at), at + (1 + field_count(Step::GAIN_MAP)))),
         Step::MATRIX_MAP => {
-            Read::Found(
+            Some((
                 matrix_at(words, at),
                 at + (1 + field_count(Step::MATRIX_MAP)),
-            )
+            ))
         }
-        Step::CLEAR_MAP => {
-            Read::Found(clear_at(words, at), at + (1 + field_count(Step::CLEAR_MAP)))
-        }
-        Step::SEND_MAP => Read::Found(send_at(words, at), at + (1 + field_count(Step::SEND_MAP))),
+        Step::CLEAR_MAP => { Some((clear_at(words, at), at + (1 + field_count(Step::CLEAR_MAP)))) }
+        Step::SEND_MAP => Some((send_at(words, at), at + (1 + field_count(Step::SEND_MAP)))),
         Step::OUTPUT_MAP => {
-            Read::Found(
+            Some((
                 output_at(words, at),
                 at + (1 + field_count(Step::OUTPUT_MAP)),
-            )
+            ))
         }
-        _ => Read::Bad,
+        _ => None,
     }
 }

@@ -2,13 +2,16 @@
 // All of it is for the crates above and not the interface: a function that has a `requires` says in its comment what it takes.
 #![tactic(auto)]
 
+pub mod indices;
+
 ghost use Rattle.std.specs.Prelude.{◌≡◌, true, false, ◌||◌, ℕ, ◌+◌, ◌*◌, ◌<◌, ◌≤◌, length};
 ghost use Rattle.lists.specs.Entries.{some_from, has, meet};
 ghost use Rattle.sets.specs.Sets.{member, set_size};
 ghost use Rattle.plan.specs.Check.{past, named, outside, used, first_of, too_wide, shares};
-ghost use Rattle.plan.specs.Sound.{Within, IndexList};
-ghost use Rattle.plan.specs.Loops.{Ascending, span_before, channels};
+ghost use Rattle.plan.specs.Sound.{Within};
+ghost use Rattle.plan.specs.Loops.{span_before, channels};
 
+use indices::Indices;
 use node::Node;
 use plan::{Plan, Span, Step};
 use sets::Set;
@@ -31,7 +34,7 @@ fn values(src: Span, dst: Span) -> usize
 pub fn used(src: Span, dst: Span) -> u32
     ensures { result ≡ used src dst }
 {
-    if src.len < dst.len { src.len } else { dst.len }
+    src.len.min(dst.len)
 }
 
 // The first n entries of a span.
@@ -45,21 +48,15 @@ pub fn first_of(n: u32, span: Span) -> Span
 }
 
 // Number 4.
+#[tactic(auto, unfolding(plan::specs::Check::outside_by))]
 pub fn step_outside(plan: Plan, step: Step) -> bool
     ensures { result ≡ outside plan step }
 {
     match step {
-        Step::Patch {
-            input,
-            channel: _,
-            dst,
-        } => (input >= Step::INPUTS) | (dst as usize >= plan.buffers),
-        Step::Gain { node, src, dst } => {
-            (node as usize >= plan.nodes)
-                | span_past(plan.indices, src)
-                | span_past(plan.indices, dst)
+        Step::Patch { input, dst, .. } => {
+            (input >= Step::INPUTS) | (dst as usize >= plan.buffers)
         }
-        Step::Matrix { node, src, dst } => {
+        Step::Gain { node, src, dst } | Step::Matrix { node, src, dst } => {
             (node as usize >= plan.nodes)
                 | span_past(plan.indices, src)
                 | span_past(plan.indices, dst)
@@ -82,25 +79,14 @@ pub fn step_outside(plan: Plan, step: Step) -> bool
 }
 
 // Number 7.
+#[tactic(auto, unfolding(plan::specs::Check::too_wide))]
 pub fn step_wide(step: Step) -> bool
     ensures { result ≡ too_wide step }
 {
     match step {
-        Step::Patch {
-            input: _,
-            channel: _,
-            dst: _,
-        } => false,
-        Step::Gain { node: _, src, dst } => used(src, dst) as usize > Node::MAX,
-        Step::Matrix { node: _, src, dst } => values(src, dst) > Node::MAX,
-        Step::Clear { dst: _ } => false,
-        Step::Send {
-            node: _,
-            src: _,
-            dst: _,
-            coefficients: _,
-        } => false,
-        Step::Output { src: _, slot: _ } => false,
+        Step::Gain { src, dst, .. } => used(src, dst) as usize > Node::MAX,
+        Step::Matrix { src, dst, .. } => values(src, dst) > Node::MAX,
+        Step::Patch { .. } | Step::Clear { .. } | Step::Send { .. } | Step::Output { .. } => false,
     }
 }
 
@@ -109,29 +95,12 @@ pub fn step_channels(step: Step) -> u32
     ensures { (result ≡ channels step) × (result < 4294967296) }
 {
     match step {
-        Step::Patch {
-            input: _,
-            channel: _,
-            dst: _,
-        } => 0,
-        Step::Gain {
-            node: _,
-            src: _,
-            dst: _,
-        } => 0,
-        Step::Matrix {
-            node: _,
-            src: _,
-            dst: _,
-        } => 0,
-        Step::Clear { dst: _ } => 0,
-        Step::Send {
-            node: _,
-            src: _,
-            dst: _,
-            coefficients: _,
-        } => 0,
-        Step::Output { src, slot: _ } => src.len,
+        Step::Output { src, .. } => src.len,
+        Step::Patch { .. }
+        | Step::Gain { .. }
+        | Step::Matrix { .. }
+        | Step::Send { .. }
+        | Step::Clear { .. } => 0,
     }
 }
 
@@ -151,10 +120,8 @@ pub fn set_of(list: &[u32]) -> Set
     ensures { (j : ℕ) → member result j ≡ has list.now j }
 {
     let mut set = Set::empty();
-    let mut i = 0;
-    while i < list.len() {
-        set = set.with(list[i]);
-        i += 1;
+    for entry in list {
+        set = set.with(*entry);
     }
     set
 }
@@ -165,14 +132,7 @@ fn lists_meet(xs: &[u32], ys: &[u32]) -> bool
     ensures { result ≡ meet xs.now ys.now }
 {
     let set = set_of(ys);
-    let mut i = 0;
-    while i < xs.len() {
-        if set.has(xs[i]) {
-            return true;
-        }
-        i += 1;
-    }
-    false
+    xs.iter().any(|x| set.has(*x))
 }
 
 // One span ends before the other starts.
@@ -183,41 +143,32 @@ fn spans_apart(src: Span, dst: Span) -> bool
         | (dst.start as usize + dst.len as usize <= src.start as usize)
 }
 
-// Some buffer is in both spans. Requires spans within an index list that was tested, and one that ascends where it is said to.
-fn spans_meet(plan: Plan, indices: &[u32], ascending: bool, src: Span, dst: Span) -> bool
-    requires { IndexList plan indices.now × Within plan.indices src × Within plan.indices dst × (ascending ≡ true → Ascending 1 plan.indices indices.now) }
-    ensures { result ≡ meet (named indices.now src) (named indices.now dst) }
+// Some buffer is in both spans. Requires spans within the index list.
+fn spans_meet(indices: Indices<'_>, src: Span, dst: Span) -> bool
+    requires { Within indices.plan.indices src × Within indices.plan.indices dst }
+    ensures { result ≡ meet (named indices.entry.list.now src) (named indices.entry.list.now dst) }
 {
-    // A list that ascends, as the builder's does, names no buffer twice.
-    if ascending & spans_apart(src, dst) {
+    // A list that ascends names no buffer twice.
+    if indices.ascending & spans_apart(src, dst) {
         return false;
     }
-    lists_meet(numbers(indices, src), numbers(indices, dst))
+    lists_meet(numbers(indices.list, src), numbers(indices.list, dst))
 }
 
-// Number 6. Requires an index list that was tested, and that ascends where it is said to, and a step that is inside its tables.
-pub fn step_shares(plan: Plan, indices: &[u32], ascending: bool, step: Step) -> bool
-    requires { IndexList plan indices.now × (outside plan step ≡ false) × (ascending ≡ true → Ascending 1 plan.indices indices.now) }
-    ensures { result ≡ shares indices.now step }
+// Number 6. Requires a step that is inside its tables.
+#[tactic(auto, unfolding(plan::specs::Check::shares))]
+pub fn step_shares(indices: Indices<'_>, step: Step) -> bool
+    requires { outside indices.plan step ≡ false }
+    ensures { result ≡ shares indices.entry.list.now step }
 {
     match step {
-        Step::Patch {
-            input: _,
-            channel: _,
-            dst: _,
-        } => false,
-        Step::Gain { node: _, src, dst } => {
+        Step::Gain { src, dst, .. } => {
             let n = used(src, dst);
-            spans_meet(plan, indices, ascending, first_of(n, src), first_of(n, dst))
+            spans_meet(indices, first_of(n, src), first_of(n, dst))
         }
-        Step::Matrix { node: _, src, dst } => spans_meet(plan, indices, ascending, src, dst),
-        Step::Clear { dst: _ } => false,
-        Step::Send {
-            node: _,
-            src,
-            dst,
-            coefficients: _,
-        } => spans_meet(plan, indices, ascending, src, dst),
-        Step::Output { src: _, slot: _ } => false,
+        Step::Matrix { src, dst, .. } | Step::Send { src, dst, .. } => spans_meet(
+            indices, src, dst,
+        ),
+        Step::Patch { .. } | Step::Clear { .. } | Step::Output { .. } => false,
     }
 }

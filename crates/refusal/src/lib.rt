@@ -1,94 +1,83 @@
-// Why a call changed nothing: document 01's number of the reason, and the step of the plan.
+// Why a call changed nothing: document 01's reason, and the step of the plan.
 // Every call that can be refused answers with these. `specs/Tests.antt` says which of several reasons answers.
 #![tactic(auto)]
 
-ghost use Rattle.std.specs.Prelude.{◌≡◌};
+ghost use Rattle.std.specs.Prelude.{◌≡◌, Some, None};
+ghost use Rattle.refusal.specs.Numbers.{number};
 ghost use Rattle.refusal.specs.Tests.{refusal};
 
-// The place is the step, from 1, that the plan check was at, and 0 in every other refusal.
-#[derive(Clone, Copy)]
+// The reasons of document 01's section "Who can be refused, and why", and of the requests, in their words: `specs/Numbers.antt` has them.
+#[derive(Clone, Copy, Debug, PartialEq, Eq)]
+pub enum Reason {
+    // To the layout writer.
+    BlockLength = 1,
+    ShortArea = 2,
+    UnreadableStep = 3,
+    OutsideTable = 4,
+    OverLimit = 5,
+    SharedBuffer = 6,
+    TooManyValues = 7,
+    IdTaken = 8,
+    // To the operator.
+    UnknownId = 9,
+    LongRamp = 10,
+    OddList = 11,
+    // To the feeder.
+    BadDirectory = 12,
+    ShortOutput = 13,
+    // To the keeper of the areas.
+    BadNode = 14,
+    // To the reader of lists and folds.
+    NoSlot = 15,
+    NoFormat = 16,
+    OutOfRange = 17,
+    // To the layout writer, of an insert.
+    BadReturn = 18,
+    // To the reader of folds, of a table.
+    NoEntry = 19,
+    PairTwice = 20,
+    PairNotCovered = 21,
+}
+
+#[derive(Clone, Copy, Debug, PartialEq, Eq)]
 pub struct Refusal {
-    pub number: u32,
-    pub place: u32,
+    pub reason: Reason,
+    // The step, from 1, that the plan check was at; none in every other refusal.
+    pub place: Option<u32>,
 }
 
 // The answer of a call that hands nothing back.
-#[derive(Clone, Copy)]
-pub enum Answer {
-    Accepted,
-    Refused(Refusal),
+pub type Answer = Result<(), Refusal>;
+
+impl Reason {
+    // Document 01's number of the reason.
+    pub fn number(self) -> u32
+        ensures { result ≡ number self }
+    {
+        self as u32
+    }
 }
 
 impl Refusal {
-    // To the layout writer.
-    pub const BLOCK_LENGTH: u32 = 1;
-
-    pub const SHORT_AREA: u32 = 2;
-
-    pub const UNREADABLE_STEP: u32 = 3;
-
-    pub const OUTSIDE_TABLE: u32 = 4;
-
-    pub const OVER_LIMIT: u32 = 5;
-
-    pub const SHARED_BUFFER: u32 = 6;
-
-    pub const TOO_MANY_VALUES: u32 = 7;
-
-    pub const ID_TAKEN: u32 = 8;
-
-    // To the operator.
-    pub const UNKNOWN_ID: u32 = 9;
-
-    pub const LONG_RAMP: u32 = 10;
-
-    pub const ODD_LIST: u32 = 11;
-
-    // To the feeder.
-    pub const BAD_DIRECTORY: u32 = 12;
-
-    pub const SHORT_OUTPUT: u32 = 13;
-
-    // To the keeper of the areas.
-    pub const BAD_NODE: u32 = 14;
-
-    // To the reader of lists and folds.
-    pub const NO_SLOT: u32 = 15;
-
-    pub const NO_FORMAT: u32 = 16;
-
-    pub const OUT_OF_RANGE: u32 = 17;
-
-    // To the layout writer, of an insert.
-    pub const BAD_RETURN: u32 = 18;
-
-    // To the reader of folds, of a table.
-    pub const NO_ENTRY: u32 = 19;
-
-    pub const PAIR_TWICE: u32 = 20;
-
-    pub const PAIR_NOT_COVERED: u32 = 21;
-
-    // A refusal of a call that is at no step.
-    pub fn of(number: u32) -> Refusal
-        ensures { result ≡ refusal number 0 }
-    {
-        Refusal { number, place: 0 }
-    }
-
     // A refusal by the plan check at a step, counted from 1.
-    pub fn at(number: u32, place: u32) -> Refusal
-        ensures { result ≡ refusal number place }
+    pub fn at(reason: Reason, place: u32) -> Refusal
+        ensures { result ≡ refusal reason (Some place) }
     {
-        Refusal { number, place }
+        Refusal {
+            reason,
+            place: Some(place),
+        }
     }
 }
 
-impl Answer {
-    // The refusal of a call that is at no step.
-    pub fn refused(number: u32) -> Answer
-        ensures { result ≡ Answer.Refused (refusal number 0) }
-    {
-        Answer::Refused(Refusal::of(number))
+// A refusal of a call that is at no step.
+impl From<Reason> for Refusal {
+    ghost from_gives = { λ reason made. made ≡ refusal reason None };
+
+    fn from(reason: Reason) -> Refusal {
+        Refusal {
+            reason,
+            place: None,
+        }
     }
 }

@@ -1,10 +1,10 @@
 // What a call gave, beside what the file has. Each comparison writes the first difference to the standard output.
-ghost use Rattle.std.specs.Prelude.{◌≡◌};
-ghost use Rattle.comparison.specs.Lists.{word, sample, compared};
+ghost use Rattle.std.specs.Prelude.{◌≡◌, is_none};
+ghost use Rattle.comparison.specs.Lists.{compared};
 
 use crate::data;
 use crate::data::area;
-use comparison::{Comparison, floats};
+use comparison::{Entry, floats};
 use plan::{Plan, Span};
 use refusal::{Answer, Refusal};
 
@@ -34,10 +34,7 @@ pub fn number(what: &[u8], reference: u32, here: u32) -> bool {
 
 // Yes or no; the reference's yes is 1.
 pub fn yes(what: &[u8], reference: u32, here: bool) -> bool {
-    if here {
-        return number(what, reference, 1);
-    }
-    number(what, reference, 0)
+    number(what, reference, u32::from(here))
 }
 
 fn low(n: u64) -> u32 {
@@ -62,68 +59,45 @@ pub fn double(what: &[u8], reference: u64, here: f64) -> bool {
     long(what, reference, floats::bits_of_double(here))
 }
 
+// The word of entry i, and 0 past the end.
+fn word_at<T: Entry>(list: &[T], i: usize) -> u32 {
+    if i < list.len() {
+        return list[i].word();
+    }
+    0
+}
+
 // Whether two lists are the same; if not, their words at the first difference are written.
-fn reported(what: &[u8], found: Comparison, reference: u32, here: u32) -> bool
-    ensures { result ≡ found.same }
+fn same_lists<T: Entry>(what: &[u8], reference: &[u32], here: &[T]) -> bool
+    ensures { result ≡ is_none (compared T.word_of reference.now here.now) }
 {
-    if !found.same {
-        differs_at(what, found.place, reference, here);
+    match comparison::difference(reference, here) {
+        Some(i) => {
+            differs_at(what, i, word_at(reference, i), word_at(here, i));
+            false
+        }
+        None => true,
     }
-    found.same
 }
 
-fn same_words(what: &[u8], reference: &[u32], here: &[u32]) -> bool
-    ensures { result ≡ (compared word reference.now here.now).same }
-{
-    let found = comparison::words(reference, here);
-    let i = found.place;
-    reported(what, found, data::word(reference, i), data::word(here, i))
+// The number and the place of a refusal, which are 0 in the record where the call is accepted; the place is 0 where it is at no step.
+fn outcome(record: &[u32], of: u32, place: u32) -> bool {
+    number(b"refusal's number", data::word(record, 2), of)
+        && number(b"refusal's place", data::word(record, 3), place)
 }
 
-fn bits_at(list: &[f32], i: usize) -> u32 {
-    if i < list.len() {
-        return floats::bits_of(list[i]);
-    }
-    0
-}
-
-fn same_samples(what: &[u8], reference: &[u32], here: &[f32]) -> bool
-    ensures { result ≡ (compared sample reference.now here.now).same }
-{
-    let found = comparison::samples(reference, here);
-    let i = found.place;
-    reported(what, found, data::word(reference, i), bits_at(here, i))
-}
-
-fn short_at(list: &[u16], i: usize) -> u32 {
-    if i < list.len() {
-        return comparison::wide(list[i]);
-    }
-    0
-}
-
-fn same_shorts(what: &[u8], reference: &[u32], here: &[u16]) -> bool
-    ensures { result ≡ (compared word reference.now here.now).same }
-{
-    let found = comparison::shorts(reference, here);
-    let i = found.place;
-    reported(what, found, data::word(reference, i), short_at(here, i))
-}
-
-// A refusal; the record has its number and place, which are 0 where the call is accepted.
 pub fn refused(record: &[u32], r: Refusal) -> bool {
-    number(b"refusal's number", data::word(record, 2), r.number)
-        && number(b"refusal's place", data::word(record, 3), r.place)
+    outcome(record, r.reason.number(), r.place.unwrap_or(0))
 }
 
 pub fn accepted(record: &[u32]) -> bool {
-    refused(record, Refusal::at(0, 0))
+    outcome(record, 0, 0)
 }
 
 pub fn answer(record: &[u32], answer: Answer) -> bool {
     match answer {
-        Answer::Accepted => accepted(record),
-        Answer::Refused(r) => refused(record, r),
+        Ok(()) => accepted(record),
+        Err(r) => refused(record, r),
     }
 }
 
@@ -178,16 +152,8 @@ pub fn span(record: &[u32], i: u8, here: Span) -> bool {
 }
 
 // What a call left, beside area i of the record.
-pub fn words_left(what: &[u8], words: &[u32], record: &[u32], i: u8, here: &[u32]) -> bool {
-    same_words(what, area(words, record, i), here)
-}
-
-pub fn samples_left(what: &[u8], words: &[u32], record: &[u32], i: u8, here: &[f32]) -> bool {
-    same_samples(what, area(words, record, i), here)
-}
-
-pub fn shorts_left(what: &[u8], words: &[u32], record: &[u32], i: u8, here: &[u16]) -> bool {
-    same_shorts(what, area(words, record, i), here)
+pub fn list_left<T: Entry>(what: &[u8], words: &[u32], record: &[u32], i: u8, here: &[T]) -> bool {
+    same_lists(what, area(words, record, i), here)
 }
 
 pub fn plan_left(words: &[u32], record: &[u32], i: u8, here: Plan) -> bool {

@@ -65,10 +65,8 @@ fn line(tally: &[u64], i: u32) {
 
 // The counts behind one up to another, a line each.
 fn lines(tally: &[u64], from: u32, to: u32) {
-    let mut i = from;
-    while i < to {
-        i += 1;
-        line(tally, i);
+    for i in from..to {
+        line(tally, i + 1);
     }
 }
 

@@ -86,19 +86,7 @@ fn length_of(record: &[u32], i: u8, most: usize) -> usize
 }
 
 // The length of area i of a record in an array that is to hold it.
-pub fn words_in(record: &[u32], i: u8, array: &[u32]) -> usize
-    ensures { Front result array.now }
-{
-    length_of(record, i, array.len())
-}
-
-pub fn floats_in(record: &[u32], i: u8, array: &[f32]) -> usize
-    ensures { Front result array.now }
-{
-    length_of(record, i, array.len())
-}
-
-pub fn shorts_in(record: &[u32], i: u8, array: &[u16]) -> usize
+pub fn length_in<T>(record: &[u32], i: u8, array: &[T]) -> usize
     ensures { Front result array.now }
 {
     length_of(record, i, array.len())

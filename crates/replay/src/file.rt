@@ -22,11 +22,10 @@ fn byte(bytes: &[u8], i: usize) -> u32 {
     0
 }
 
-// The word of four bytes, from one on.
-fn word_at(bytes: &[u8], at: usize) -> u32 {
-    let low = byte(bytes, at) | (byte(bytes, std::num::wrapping_add_usize(at, 1)) << 8);
-    let high = byte(bytes, std::num::wrapping_add_usize(at, 2))
-        | (byte(bytes, std::num::wrapping_add_usize(at, 3)) << 8);
+// The word of four bytes.
+fn word_of(four: &[u8]) -> u32 {
+    let low = byte(four, 0) | (byte(four, 1) << 8);
+    let high = byte(four, 2) | (byte(four, 3) << 8);
     low | (high << 16)
 }
 
@@ -35,12 +34,8 @@ fn fill(bytes: &[u8], words: &mut [u32]) -> usize
     ensures { Front result words.new }
 {
     let n = data::least(bytes.len() / 4, words.len());
-    let mut at = 0;
-    let mut i = 0;
-    while i < n {
-        words[i] = word_at(bytes, at);
-        at = std::num::wrapping_add_usize(at, 4);
-        i += 1;
+    for (word, four) in words.iter_mut().zip(bytes.chunks_exact(4)) {
+        *word = word_of(four);
     }
     n
 }

@@ -1,10 +1,10 @@
 // Records of formats, balances, folds and the rounding.
-use crate::data::{floats_in, word};
+use crate::data::{length_in, word};
 use crate::{areas, compare, data};
 use comparison::floats;
 use format::Format;
-use format_balance::{Gains, Stereo};
 use format_fold::FoldGains;
+use refusal::Refusal;
 
 // The f64 of words i and i + 1.
 fn double(record: &[u32], i: u8) -> f64 {
@@ -36,12 +36,12 @@ pub fn labels(record: &[u32]) -> bool {
     compare::accepted(record) && channels(record, format, n) && label(record, format, n)
 }
 
-fn gains(record: &[u32], answer: Gains) -> bool {
+fn gains(record: &[u32], answer: Result<(f64, f64), Refusal>) -> bool {
     match answer {
-        Gains::Pair(left, right) => compare::accepted(record)
+        Ok((left, right)) => compare::accepted(record)
             && same_double(b"left gain", record, 7, left)
             && same_double(b"right gain", record, 9, right),
-        Gains::Refused(r) => compare::refused(record, r),
+        Err(r) => compare::refused(record, r),
     }
 }
 
@@ -51,31 +51,30 @@ pub fn balance_gains(record: &[u32]) -> bool {
 }
 
 fn balance_in(words: &[u32], record: &[u32], out: &mut [f32]) -> bool {
-    areas::load_floats(words, record, 0, out);
+    areas::load(words, record, 0, out);
     let answer = format_balance::balance_of(word(record, 9), double(record, 10), out);
-    compare::answer(record, answer) && compare::samples_left(b"gains", words, record, 1, out)
+    compare::answer(record, answer) && compare::list_left(b"gains", words, record, 1, out)
 }
 
 // Areas: the gains' area, the same after. Numbers: the format, the balance.
 pub fn balance_of(words: &[u32], record: &[u32]) -> bool {
-    let mut out = areas::float_room();
-    let n = floats_in(record, 0, &out);
+    let mut out = areas::room::<f32>();
+    let n = length_in(record, 0, &out);
     balance_in(words, record, &mut out[..n])
 }
 
-fn matrix(record: &[u32], ll: f64, lr: f64, rl: f64, rr: f64) -> bool {
-    same_double(b"left from left", record, 9, ll)
-        && same_double(b"left from right", record, 11, lr)
-        && same_double(b"right from left", record, 13, rl)
-        && same_double(b"right from right", record, 15, rr)
+fn matrix(record: &[u32], gains: [f64; 4]) -> bool {
+    same_double(b"left from left", record, 9, gains[0])
+        && same_double(b"left from right", record, 11, gains[1])
+        && same_double(b"right from left", record, 13, gains[2])
+        && same_double(b"right from right", record, 15, gains[3])
 }
 
 // Numbers: the width, the balance, the four gains.
 pub fn stereo_matrix(record: &[u32]) -> bool {
     match format_balance::stereo_matrix(double(record, 5), double(record, 7)) {
-        Stereo::Matrix(ll, lr, rl, rr) => compare::accepted(record)
-            && matrix(record, ll, lr, rl, rr),
-        Stereo::Refused(r) => compare::refused(record, r),
+        Ok(gains) => compare::accepted(record) && matrix(record, gains),
+        Err(r) => compare::refused(record, r),
     }
 }
 
@@ -92,7 +91,7 @@ pub fn gains_of(numbers: &[u32]) -> FoldGains {
 }
 
 fn width_in(words: &[u32], record: &[u32], out: &mut [f32]) -> bool {
-    areas::load_floats(words, record, 0, out);
+    areas::load(words, record, 0, out);
     let numbers = data::numbers_of(record, 2);
     let answer = format_fold::width_matrix(
         word(numbers, 0),
@@ -101,13 +100,13 @@ fn width_in(words: &[u32], record: &[u32], out: &mut [f32]) -> bool {
         word(numbers, 2) == 1,
         out,
     );
-    compare::answer(record, answer) && compare::samples_left(b"matrix", words, record, 1, out)
+    compare::answer(record, answer) && compare::list_left(b"matrix", words, record, 1, out)
 }
 
 // Areas: the matrix's area, the same after. Numbers: the two formats, 1 for normalise, the six gains.
 pub fn width_matrix(words: &[u32], record: &[u32]) -> bool {
-    let mut out = areas::float_room();
-    let n = floats_in(record, 0, &out);
+    let mut out = areas::room::<f32>();
+    let n = length_in(record, 0, &out);
     width_in(words, record, &mut out[..n])
 }
 

@@ -1,8 +1,8 @@
 // Records of inserts. Areas: the record, the record after, the index list, the coefficients, the node floats and words and the step words, these five after.
 // Numbers: the format, the source span, the gain, the slot, the ramp, the six ids, whether there is a return, its input, channel and gain, whether it is at
 // bypass, the span handed back.
-use crate::builds::{nodes_left, plan_in, spanned};
-use crate::data::{floats_in, word, words_in};
+use crate::builds::{builder_in, nodes_left, spanned};
+use crate::data::{length_in, word};
 use crate::{areas, compare};
 use comparison::floats;
 use insert::{InsertIds, InsertPoint, InsertReturn};
@@ -54,10 +54,10 @@ fn left(
     node_words: &[u32],
     steps: &[u32],
 ) -> bool {
-    compare::words_left(b"indices", words, record, 7, indices)
-        && compare::samples_left(b"coefficients", words, record, 8, coefficients)
+    compare::list_left(b"indices", words, record, 7, indices)
+        && compare::list_left(b"coefficients", words, record, 8, coefficients)
         && nodes_left(words, record, 9, floats, node_words)
-        && compare::words_left(b"step words", words, record, 11, steps)
+        && compare::list_left(b"step words", words, record, 11, steps)
 }
 
 fn made(
@@ -69,9 +69,9 @@ fn made(
     node_words: &mut [u32],
     steps: &mut [u32],
 ) -> bool {
-    let plan = plan_in(words, record, 0);
+    let mut builder = builder_in(words, record, 0);
     let made = insert_calls::insert(
-        plan,
+        &mut builder,
         point_of(record),
         indices,
         coefficients,
@@ -79,7 +79,7 @@ fn made(
         node_words,
         steps,
     );
-    spanned(words, record, 46, made)
+    spanned(words, record, 46, made, builder.plan)
         && left(
             words,
             record,
@@ -98,14 +98,14 @@ fn load_lists(
     coefficients: &mut [f32],
     steps: &mut [u32],
 ) {
-    areas::load_words(words, record, 2, indices);
-    areas::load_floats(words, record, 3, coefficients);
-    areas::load_words(words, record, 6, steps);
+    areas::load(words, record, 2, indices);
+    areas::load(words, record, 3, coefficients);
+    areas::load(words, record, 6, steps);
 }
 
 fn load_nodes(words: &[u32], record: &[u32], floats: &mut [f32], node_words: &mut [u32]) {
-    areas::load_floats(words, record, 4, floats);
-    areas::load_words(words, record, 5, node_words);
+    areas::load(words, record, 4, floats);
+    areas::load(words, record, 5, node_words);
 }
 
 fn loaded(
@@ -131,16 +131,16 @@ fn loaded(
 }
 
 pub fn insert(words: &[u32], record: &[u32]) -> bool {
-    let mut indices = areas::word_room();
-    let mut coefficients = areas::float_room();
-    let mut floats = areas::float_room();
-    let mut node_words = areas::word_room();
-    let mut steps = areas::word_room();
-    let n = words_in(record, 2, &indices);
-    let m = floats_in(record, 3, &coefficients);
-    let k = floats_in(record, 4, &floats);
-    let i = words_in(record, 5, &node_words);
-    let j = words_in(record, 6, &steps);
+    let mut indices = areas::room::<u32>();
+    let mut coefficients = areas::room::<f32>();
+    let mut floats = areas::room::<f32>();
+    let mut node_words = areas::room::<u32>();
+    let mut steps = areas::room::<u32>();
+    let n = length_in(record, 2, &indices);
+    let m = length_in(record, 3, &coefficients);
+    let k = length_in(record, 4, &floats);
+    let i = length_in(record, 5, &node_words);
+    let j = length_in(record, 6, &steps);
     loaded(
         words,
         record,

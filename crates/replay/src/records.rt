@@ -22,15 +22,8 @@ fn area_whole(n: usize, start: u32, len: u32) -> bool {
 
 // Each of the areas whose starts and lengths stand in the list.
 fn areas_whole(n: usize, list: &[u32]) -> bool {
-    let count = list.len() / 2;
-    let mut i = 0;
-    while i < count {
-        if !area_whole(n, list[i * 2], list[i * 2 + 1]) {
-            return false;
-        }
-        i += 1;
-    }
-    true
+    list.chunks_exact(2)
+        .all(|area| area_whole(n, word(area, 0), word(area, 1)))
 }
 
 // The length of a record with so many areas and numbers.
@@ -137,11 +130,9 @@ fn one(words: &[u32], record: &[u32], i: u32) -> bool {
 // All n records, from a word of the file on, up to the first one that differs.
 pub fn all(words: &[u32], start: usize, n: u32, tally: &mut [u64]) -> bool {
     let mut at = start;
-    let mut i = 0;
-    while i < n {
-        i += 1;
+    for i in 0..n {
         let record = data::record(words, at);
-        if !one(words, record, i) {
+        if !one(words, record, i + 1) {
             return false;
         }
         counts::record(record, tally);

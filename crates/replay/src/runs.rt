@@ -1,8 +1,8 @@
 // Records of the check, `set_param`, `process`, `adopt` and the channel lookup.
 use crate::builds::{nodes_left, plan_in};
-use crate::data::{area, floats_in, word, words_in};
+use crate::data::{area, length_in, word};
 use crate::{areas, compare, data, kinds};
-use run::Ran;
+use refusal::Refusal;
 
 fn set(
     words: &[u32],
@@ -25,20 +25,20 @@ fn set_in(
     floats: &mut [f32],
     node_words: &mut [u32],
 ) -> bool {
-    areas::load_floats(words, record, 0, values);
-    areas::load_floats(words, record, 1, floats);
-    areas::load_words(words, record, 2, node_words);
+    areas::load(words, record, 0, values);
+    areas::load(words, record, 1, floats);
+    areas::load(words, record, 2, node_words);
     set(words, record, values, floats, node_words)
 }
 
 // Areas: the values, the node floats and words, both after. Numbers: how many nodes, the id, the ramp.
 pub fn set_param(words: &[u32], record: &[u32]) -> bool {
-    let mut values = areas::float_room();
-    let mut floats = areas::float_room();
-    let mut node_words = areas::word_room();
-    let n = floats_in(record, 0, &values);
-    let m = floats_in(record, 1, &floats);
-    let k = words_in(record, 2, &node_words);
+    let mut values = areas::room::<f32>();
+    let mut floats = areas::room::<f32>();
+    let mut node_words = areas::room::<u32>();
+    let n = length_in(record, 0, &values);
+    let m = length_in(record, 1, &floats);
+    let k = length_in(record, 2, &node_words);
     set_in(
         words,
         record,
@@ -56,10 +56,10 @@ fn load_plan(
     node_words: &mut [u32],
     buffers: &mut [f32],
 ) {
-    areas::load_floats(words, record, 2, coefficients);
-    areas::load_floats(words, record, 3, floats);
-    areas::load_words(words, record, 4, node_words);
-    areas::load_floats(words, record, 6, buffers);
+    areas::load(words, record, 2, coefficients);
+    areas::load(words, record, 3, floats);
+    areas::load(words, record, 4, node_words);
+    areas::load(words, record, 6, buffers);
 }
 
 fn checked(
@@ -85,11 +85,11 @@ fn checked(
     compare::answer(record, answer)
 }
 
-fn ran(record: &[u32], answer: Ran) -> bool {
+fn ran(record: &[u32], answer: Result<usize, Refusal>) -> bool {
     match answer {
-        Ran::Wrote(n) => compare::accepted(record)
+        Ok(n) => compare::accepted(record)
             && compare::size(b"samples written", data::size(record, 33), n),
-        Ran::Refused(r) => compare::refused(record, r),
+        Err(r) => compare::refused(record, r),
     }
 }
 
@@ -102,8 +102,8 @@ fn run_left(
     output: &[f32],
 ) -> bool {
     nodes_left(words, record, 10, floats, node_words)
-        && compare::samples_left(b"buffers", words, record, 12, buffers)
-        && compare::samples_left(b"output", words, record, 13, output)
+        && compare::list_left(b"buffers", words, record, 12, buffers)
+        && compare::list_left(b"output", words, record, 13, output)
 }
 
 fn processed(
@@ -145,8 +145,8 @@ fn process_in(
     samples: &mut [f32],
     output: &mut [f32],
 ) -> bool {
-    areas::load_floats(words, record, 8, samples);
-    areas::load_floats(words, record, 9, output);
+    areas::load(words, record, 8, samples);
+    areas::load(words, record, 9, output);
     processed(
         words,
         record,
@@ -167,10 +167,10 @@ fn process_with(
     node_words: &mut [u32],
     buffers: &mut [f32],
 ) -> bool {
-    let mut samples = areas::float_room();
-    let mut output = areas::float_room();
-    let n = floats_in(record, 8, &samples);
-    let m = floats_in(record, 9, &output);
+    let mut samples = areas::room::<f32>();
+    let mut output = areas::room::<f32>();
+    let n = length_in(record, 8, &samples);
+    let m = length_in(record, 9, &output);
     process_in(
         words,
         record,
@@ -200,10 +200,10 @@ fn planned(
 }
 
 fn with_nodes(words: &[u32], record: &[u32], coefficients: &mut [f32], floats: &mut [f32]) -> bool {
-    let mut node_words = areas::word_room();
-    let mut buffers = areas::float_room();
-    let n = words_in(record, 4, &node_words);
-    let m = floats_in(record, 6, &buffers);
+    let mut node_words = areas::room::<u32>();
+    let mut buffers = areas::room::<f32>();
+    let n = length_in(record, 4, &node_words);
+    let m = length_in(record, 6, &buffers);
     planned(
         words,
         record,
@@ -218,10 +218,10 @@ fn with_nodes(words: &[u32], record: &[u32], coefficients: &mut [f32], floats: &
 // buffers; it has no numbers. Areas of a run: the same, then the directory, the samples, the output area; the node floats and words, the
 // buffers and the output area after. Numbers: the samples written.
 pub fn on_plan(words: &[u32], record: &[u32]) -> bool {
-    let mut coefficients = areas::float_room();
-    let mut floats = areas::float_room();
-    let n = floats_in(record, 2, &coefficients);
-    let m = floats_in(record, 3, &floats);
+    let mut coefficients = areas::room::<f32>();
+    let mut floats = areas::room::<f32>();
+    let n = length_in(record, 2, &coefficients);
+    let m = length_in(record, 3, &floats);
     with_nodes(words, record, &mut coefficients[..n], &mut floats[..m])
 }
 
@@ -250,20 +250,20 @@ fn adopt_in(
     node_words: &mut [u32],
     old_floats: &mut [f32],
 ) -> bool {
-    areas::load_floats(words, record, 0, floats);
-    areas::load_words(words, record, 1, node_words);
-    areas::load_floats(words, record, 2, old_floats);
+    areas::load(words, record, 0, floats);
+    areas::load(words, record, 1, node_words);
+    areas::load(words, record, 2, old_floats);
     adopted(words, record, floats, node_words, old_floats)
 }
 
 // Areas: the node floats and words, the old ones, the pairs, the node floats and words after. Numbers: how many nodes, how many old ones, the ramp.
 pub fn adopt(words: &[u32], record: &[u32]) -> bool {
-    let mut floats = areas::float_room();
-    let mut node_words = areas::word_room();
-    let mut old_floats = areas::float_room();
-    let n = floats_in(record, 0, &floats);
-    let m = words_in(record, 1, &node_words);
-    let k = floats_in(record, 2, &old_floats);
+    let mut floats = areas::room::<f32>();
+    let mut node_words = areas::room::<u32>();
+    let mut old_floats = areas::room::<f32>();
+    let n = length_in(record, 0, &floats);
+    let m = length_in(record, 1, &node_words);
+    let k = length_in(record, 2, &old_floats);
     adopt_in(
         words,
         record,
@@ -274,20 +274,20 @@ pub fn adopt(words: &[u32], record: &[u32]) -> bool {
 }
 
 fn lookup_in(words: &[u32], record: &[u32], samples: &mut [f32]) -> bool {
-    areas::load_floats(words, record, 1, samples);
+    areas::load(words, record, 1, samples);
     let found = input::lookup(
         area(words, record, 0),
         samples,
         word(record, 11),
         word(record, 12),
     );
-    compare::accepted(record) && compare::samples_left(b"part", words, record, 2, found)
+    compare::accepted(record) && compare::list_left(b"part", words, record, 2, found)
 }
 
 // Areas: the directory, the samples, the part. Numbers: the input, the channel.
 pub fn lookup(words: &[u32], record: &[u32]) -> bool {
-    let mut samples = areas::float_room();
-    let n = floats_in(record, 1, &samples);
+    let mut samples = areas::room::<f32>();
+    let n = length_in(record, 1, &samples);
     lookup_in(words, record, &mut samples[..n])
 }
 

@@ -1,24 +1,15 @@
 // Records of the trace and the clean answer.
 use crate::builds::plan_in;
-use crate::data::{area, shorts_in, word, words_in};
+use crate::data::{area, length_in, word};
 use crate::{areas, compare};
-use trace::{AllSources, CleanAnswer, Sources};
+use refusal::Refusal;
 
-// The answer of a trace of one slot; its count is word i of the record.
-fn listed(record: &[u32], i: u8, answer: Sources) -> bool {
+// The answer of a trace, of one slot or of all; its count is word i of the record.
+fn listed(record: &[u32], i: u8, answer: Result<u32, Refusal>) -> bool {
     match answer {
-        Sources::Listed(n) => compare::accepted(record)
+        Ok(n) => compare::accepted(record)
             && compare::number(b"count", word(record, i as usize), n),
-        Sources::Refused(r) => compare::refused(record, r),
-    }
-}
-
-// The answer of a trace of all slots, likewise.
-fn slots(record: &[u32], i: u8, answer: AllSources) -> bool {
-    match answer {
-        AllSources::Slots(n) => compare::accepted(record)
-            && compare::number(b"count", word(record, i as usize), n),
-        AllSources::Refused(r) => compare::refused(record, r),
+        Err(r) => compare::refused(record, r),
     }
 }
 
@@ -35,18 +26,18 @@ fn sources(words: &[u32], record: &[u32], list: &mut [u16]) -> bool {
         steps,
         list,
     );
-    listed(record, 18, answer) && compare::shorts_left(b"source list", words, record, 5, list)
+    listed(record, 18, answer) && compare::list_left(b"source list", words, record, 5, list)
 }
 
 fn sources_in(words: &[u32], record: &[u32], list: &mut [u16]) -> bool {
-    areas::load_shorts(words, record, 4, list);
+    areas::load(words, record, 4, list);
     sources(words, record, list)
 }
 
 // Areas: the record, the index list, the node words, the step words, the list's area, the same after. Numbers: the slot, how many are listed.
 pub fn output_sources(words: &[u32], record: &[u32]) -> bool {
-    let mut list = areas::short_room();
-    let n = shorts_in(record, 4, &list);
+    let mut list = areas::room::<u16>();
+    let n = length_in(record, 4, &list);
     sources_in(words, record, &mut list[..n])
 }
 
@@ -56,33 +47,31 @@ fn all(words: &[u32], record: &[u32], counts: &mut [u32], lists: &mut [u16]) -> 
     let node_words = area(words, record, 2);
     let steps = area(words, record, 3);
     let answer = trace_calls::all_sources(plan, indices, node_words, steps, counts, lists);
-    slots(record, 21, answer)
-        && compare::words_left(b"counts", words, record, 6, counts)
-        && compare::shorts_left(b"source lists", words, record, 7, lists)
+    listed(record, 21, answer)
+        && compare::list_left(b"counts", words, record, 6, counts)
+        && compare::list_left(b"source lists", words, record, 7, lists)
 }
 
 fn all_in(words: &[u32], record: &[u32], counts: &mut [u32], lists: &mut [u16]) -> bool {
-    areas::load_words(words, record, 4, counts);
-    areas::load_shorts(words, record, 5, lists);
+    areas::load(words, record, 4, counts);
+    areas::load(words, record, 5, lists);
     all(words, record, counts, lists)
 }
 
 // Areas: the record, the index list, the node words, the step words, the counts' and the lists' area, both after. Numbers: how many slots are listed.
 pub fn all_sources(words: &[u32], record: &[u32]) -> bool {
-    let mut counts = areas::word_room();
-    let mut lists = areas::short_room();
-    let n = words_in(record, 4, &counts);
-    let m = shorts_in(record, 5, &lists);
+    let mut counts = areas::room::<u32>();
+    let mut lists = areas::room::<u16>();
+    let n = length_in(record, 4, &counts);
+    let m = length_in(record, 5, &lists);
     all_in(words, record, &mut counts[..n], &mut lists[..m])
 }
 
-fn clean(record: &[u32], answer: CleanAnswer) -> bool {
+fn clean(record: &[u32], answer: Result<bool, Refusal>) -> bool {
     match answer {
-        CleanAnswer::Clean => compare::accepted(record)
-            && compare::yes(b"clean answer", word(record, 13), true),
-        CleanAnswer::NotClean => compare::accepted(record)
-            && compare::yes(b"clean answer", word(record, 13), false),
-        CleanAnswer::Refused(r) => compare::refused(record, r),
+        Ok(yes) => compare::accepted(record)
+            && compare::yes(b"clean answer", word(record, 13), yes),
+        Err(r) => compare::refused(record, r),
     }
 }
 

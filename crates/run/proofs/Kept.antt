@@ -6,8 +6,6 @@ use Prim.Native.Nat.{ℕ, ◌<◌, ◌≤◌}
 use native.Mathlib.Omega.{arith}
 use lib.ListN.{get_or}
 use lib.Ieee.{Float, nan}
-use Rattle.refusal.specs.declared.Answer.{Answer}
-use Rattle.refusal.specs.declared.Answer.TheVariants.{Accepted, Refused}
 use Rattle.mix.specs.Samples.{sample}
 use Rattle.mix.specs.Mix.{NotIn, used}
 use Rattle.mix.proofs.Put.{put_other}
@@ -18,6 +16,8 @@ use Rattle.run.specs.Run.{RunGiven, State, stepped, run_steps, steps_of_run, adm
 use Rattle.run.proofs.Answers.{accepted_runs, refused_keeps}
 use Rattle.run.proofs.States.{SameLengths, run_lengths}
 use Rattle.run.proofs.Outputs.{wrote_out}
+use Rattle.refusal.specs.Tests.{Answer}
+use Rattle.std.specs.Prelude.{Ok, Err}
 
 -- the buffers that a step writes
 abbrev pub dst_used : Resolved → List ℕ
@@ -87,19 +87,19 @@ module _ (g : RunGiven) (s : State) where
   process_lengths = go (admission g s) refl
     where
       go : (a : Answer) → admission g s ≡ a → SameLengths block s (processed g s)
-      go Accepted e = rw (accepted_runs g s e) (run_lengths block input (steps_of_run g) s)
-      go (Refused r) e = rw (refused_keeps g s e) (record { floats = refl; words = refl; buffers = refl; output = refl })
+      go (Ok _) e = rw (accepted_runs g s e) (run_lengths block input (steps_of_run g) s)
+      go (Err r) e = rw (refused_keeps g s e) (record { floats = refl; words = refl; buffers = refl; output = refl })
 
   pub process_other : (b k : ℕ) → k < block → Unwritten b (steps_of_run g) → sample block (processed g s).buffers b k ≡ sample block s.buffers b k
   process_other b k h o = go (admission g s) refl
     where
       go : (a : Answer) → admission g s ≡ a → sample block (processed g s).buffers b k ≡ sample block s.buffers b k
-      go Accepted e = rw (accepted_runs g s e) (steps_other block input b k h (steps_of_run g) s o)
-      go (Refused r) e = rw (refused_keeps g s e) refl
+      go (Ok _) e = rw (accepted_runs g s e) (steps_other block input b k h (steps_of_run g) s o)
+      go (Err r) e = rw (refused_keeps g s e) refl
 
   pub process_past : (i : ℕ) → (processed g s).wrote ≤ i → get_or (processed g s).output i nan ≡ get_or s.output i nan
   process_past i = go (admission g s) refl
     where
       go : (a : Answer) → admission g s ≡ a → (processed g s).wrote ≤ i → get_or (processed g s).output i nan ≡ get_or s.output i nan
-      go Accepted e = rw (accepted_runs g s e) (steps_past block input (steps_of_run g) s i)
-      go (Refused r) e = rw (refused_keeps g s e) (λ h. refl)
+      go (Ok _) e = rw (accepted_runs g s e) (steps_past block input (steps_of_run g) s i)
+      go (Err r) e = rw (refused_keeps g s e) (λ h. refl)

@@ -11,10 +11,8 @@ use borrow.Author.Tests.{eq-eqb, ne_eqb}
 use lib.Dec.{eqb}
 use lib.ListN.{length}
 use lib.Ieee.{Float}
-use Rattle.refusal.specs.Tests.{outcome}
+use Rattle.refusal.specs.Tests.{outcome, Answer}
 use Rattle.refusal.specs.declared.Refusal.{Refusal}
-use Rattle.refusal.specs.declared.Answer.{Answer}
-use Rattle.refusal.specs.declared.Answer.TheVariants.{Accepted, Refused}
 use Rattle.lists.specs.Entries.{times}
 use Rattle.node.specs.declared.Node.{Node}
 use Rattle.node.specs.Sizes.{node_word_count}
@@ -33,6 +31,7 @@ use Rattle.run.specs.Calls.{Fixed, Changing, Call, set, run, given_to, start, an
 use Rattle.run.proofs.Answers.{accepted_runs, refused_keeps}
 use Rattle.run.proofs.States.{ends, step_nodes}
 use Rattle.run.proofs.Admitted.{areas_of_lem, admitted}
+use Rattle.std.specs.Prelude.{Ok, Err}
 
 -- node n of the words: its id is i, and r samples are left
 pub record Left (n i r : ℕ) (words : List ℕ) : Type 0 where
@@ -117,25 +116,25 @@ module _ (f : Fixed) (n i : ℕ) (inside : n < f.plan.nodes) (once : uses n (ste
     abbrev s : State
     s = start f h out
 
-    done : admission g s ≡ Accepted → Has n i (r - 1 * f.plan.block) (processed g s).words
+    done : admission g s ≡ Ok tt → Has n i (r - 1 * f.plan.block) (processed g s).words
     done e =
         let room : f.plan.nodes * node_word_count ≤ length h.words = (accepted_room f.plan (areas_of_lem g s) (admitted g s e).plan).words in
         let l : Left n i r h.words = record { room = omega (arith, inside); id = p.0; left = p.1 } in
         let t = steps_left f.plan.block n (lookup directory samples) (steps_of_plan f) i r s l in
         rw (accepted_runs g s e, ← once) (t.id, t.left)
 
-    kept : (q : Refusal) → admission g s ≡ Refused q → Has n i r (processed g s).words
+    kept : (q : Refusal) → admission g s ≡ Err q → Has n i r (processed g s).words
     kept q e = rw (refused_keeps g s e) p
 
     run_left : Has n i (r - outcome (admission g s) 1 (λ _. 0) * f.plan.block) (processed g s).words
     run_left = go (admission g s) refl
       where
         go : (a : Answer) → admission g s ≡ a → Has n i (r - outcome a 1 (λ _. 0) * f.plan.block) (processed g s).words
-        go Accepted e = done e
-        go (Refused q) e = rw (zero-mul, sub-zero) (kept q e)
+        go (Ok _) e = done e
+        go (Err q) e = rw (zero-mul, sub-zero) (kept q e)
 
   -- a setting of another id takes nothing
-  set_left : (h : Changing) (r id : ℕ) (values : List Float) (ramp : ℕ) → Has n i r h.words → (answer f h (set id values ramp) ≡ Accepted → i ≡ id → ⊥)
+  set_left : (h : Changing) (r id : ℕ) (values : List Float) (ramp : ℕ) → Has n i r h.words → (answer f h (set id values ramp) ≡ Ok tt → i ≡ id → ⊥)
       → Has n i r (after f h (set id values ramp)).words
   set_left h r id values ramp p other = go (answer f h (set id values ramp)) refl
     where
@@ -146,7 +145,7 @@ module _ (f : Fixed) (n i : ℕ) (inside : n < f.plan.nodes) (once : uses n (ste
       m = node_of h.words count id
 
       go : (a : Answer) → answer f h (set id values ramp) ≡ a → Has n i r (setting_words count id values ramp h.floats h.words)
-      go Accepted e =
+      go (Ok _) e =
           let t = settable count id ramp (length h.floats) h.words e in
           let k = node_named_lem h.words count id t.id_known in
           let room : count * node_word_count ≤ length h.words = t.words_room in
@@ -154,7 +153,7 @@ module _ (f : Fixed) (n i : ℕ) (inside : n < f.plan.nodes) (once : uses n (ste
           let apart : m ≡ n → ⊥ = λ q. other e (sym p.0 ∙ ap (id_at h.words) (sym q) ∙ k.1) in
           let x = stored_apart n i r m h.words (set_node (node_at h.floats h.words m) values ramp) l apart in
           rw (words_accepted count id values ramp h.floats h.words e) (x.id, x.left)
-      go (Refused q) e = rw (words_refused count id values ramp h.floats h.words e) p
+      go (Err q) e = rw (words_refused count id values ramp h.floats h.words e) p
 
   -- The theorem: node n, which one step uses, has the id i and r samples left. No accepted setting of the list is of its id.
   pub ramp_left : (cs : List Call) (h : Changing) (r : ℕ) → id_at h.words n ≡ i → left_at h.words n ≡ r → NotSet f i h cs
@@ -169,7 +168,7 @@ module _ (f : Fixed) (n i : ℕ) (inside : n < f.plan.nodes) (once : uses n (ste
       ∙ less r (outcome (answer f h (run directory samples out)) 1 (λ _. 0)) (runs f (after f h (run directory samples out)) cs) f.plan.block
 
   -- an accepted setting of its id leaves r
-  own_set : (h : Changing) (values : List Float) (r : ℕ) → id_at h.words n ≡ i → answer f h (set i values r) ≡ Accepted
+  own_set : (h : Changing) (values : List Float) (r : ℕ) → id_at h.words n ≡ i → answer f h (set i values r) ≡ Ok tt
       → Has n i r (after f h (set i values r)).words
   unfolding node_at
   own_set h values r p e =
@@ -184,7 +183,7 @@ module _ (f : Fixed) (n i : ℕ) (inside : n < f.plan.nodes) (once : uses n (ste
 
   -- The theorem from a setting on: node n, which one step uses, has the id i, and an accepted setting gives it the ramp r. No accepted setting behind it is
   -- of its id.
-  pub set_ramp : (h : Changing) (values : List Float) (r : ℕ) → id_at h.words n ≡ i → answer f h (set i values r) ≡ Accepted → (cs : List Call)
+  pub set_ramp : (h : Changing) (values : List Float) (r : ℕ) → id_at h.words n ≡ i → answer f h (set i values r) ≡ Ok tt → (cs : List Call)
       → NotSet f i (after f h (set i values r)) cs
       → left_at (after_all f h (set i values r ∷ cs)).words n ≡ r - runs f h (set i values r ∷ cs) * f.plan.block
   set_ramp h values r p e cs o = let t = own_set h values r p e in ramp_left cs (after f h (set i values r)) r t.0 t.1 o

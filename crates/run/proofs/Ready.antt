@@ -8,11 +8,8 @@ use lib.Dec.{ltb}
 use lib.ListN.{length}
 use lib.Ieee.{Float}
 use borrow.Author.Tests.{le-ltb}
-use Rattle.refusal.specs.Numbers.{bad_node, bad_directory, short_output, unknown_id}
-use Rattle.refusal.specs.Tests.{Test, test, first, refusal}
+use Rattle.refusal.specs.Tests.{Test, test, first, refusal, Answer}
 use Rattle.refusal.specs.declared.Refusal.{Refusal}
-use Rattle.refusal.specs.declared.Answer.{Answer}
-use Rattle.refusal.specs.declared.Answer.TheVariants.{Accepted, Refused}
 use Rattle.refusal.proofs.Laws.{first_append, first_same, accepted_none, none_rest, none_accepted}
 use Rattle.node.specs.declared.Node.{Node}
 use Rattle.node.specs.Sizes.{node_float_count, node_word_count, ramp_too_long}
@@ -40,6 +37,8 @@ use Rattle.run.specs.Calls.{Fixed, Changing, left_by, Call, set, run, given_to, 
 use Rattle.run.proofs.Answers.{accepted_runs, refused_keeps}
 use Rattle.run.proofs.States.{Good, good_stored, good_run, run_lengths, NodesBelow}
 use Rattle.run.proofs.Admitted.{tested}
+use Rattle.refusal.specs.declared.Reason.TheVariants.{BadDirectory, BadNode, ShortOutput, UnknownId}
+use Rattle.std.specs.Prelude.{Ok, Err, None}
 
 -- ---- the areas of a plan
 
@@ -49,18 +48,18 @@ areas_of f h = areas f.indices f.coefficients h.floats h.words f.steps h.buffers
 -- the tests of a run: the plan's, then 14, then 12 and 13, which are about the input block and the output area alone
 abbrev pub input_tests : Fixed → List ℕ → List Float → List Float → List Test
 input_tests f directory samples out =
-    test bad_directory (directory_bad directory (length samples)) ∷ test short_output (ltb (length out) (output_channels (steps_of_plan f) * f.plan.block)) ∷ []
+    test BadDirectory (directory_bad directory (length samples)) ∷ test ShortOutput (ltb (length out) (output_channels (steps_of_plan f) * f.plan.block)) ∷ []
 
 abbrev plan_tests_of : Fixed → Changing → List Test
 plan_tests_of f h = plan_tests f.plan (short_areas f.plan (areas_of f h)) f.indices h.words f.steps
 
 abbrev node_test : Fixed → Changing → Test
-node_test f h = test bad_node (some_bad h.words f.plan.nodes)
+node_test f h = test BadNode (some_bad h.words f.plan.nodes)
 
 in_turn : (f : Fixed) (h : Changing) (directory : List ℕ) (samples out : List Float)
-    → admission (given_to f directory samples) (start f h out) ≡ first (plan_tests_of f h) (first (node_test f h ∷ input_tests f directory samples out) Accepted)
+    → admission (given_to f directory samples) (start f h out) ≡ first (plan_tests_of f h) (first (node_test f h ∷ input_tests f directory samples out) (Ok tt))
 unfolding admission
-in_turn f h directory samples out = first_append (plan_tests_of f h) (node_test f h ∷ input_tests f directory samples out) Accepted
+in_turn f h directory samples out = first_append (plan_tests_of f h) (node_test f h ∷ input_tests f directory samples out) (Ok tt)
 
 -- areas as long as they were, and the same ids
 pub record Alike (f : Fixed) (h t : Changing) : Type 0 where
@@ -83,13 +82,13 @@ unfolding checked
 alike_admitted f h t a b directory samples out =
     let others = input_tests f directory samples out in
     in_turn f t directory samples out
-    ∙ first_same (plan_tests_of f t) (plan_tests_of f h) (first (node_test f t ∷ others) Accepted) (alike_checked f h t a)
-    ∙ ap (first (plan_tests_of f h)) (ap (λ (n : Bool). first (test bad_node n ∷ others) Accepted) b)
+    ∙ first_same (plan_tests_of f t) (plan_tests_of f h) (first (node_test f t ∷ others) (Ok tt)) (alike_checked f h t a)
+    ∙ ap (first (plan_tests_of f h)) (ap (λ (n : Bool). first (test BadNode n ∷ others) (Ok tt)) b)
     ∙ sym (in_turn f h directory samples out)
 
 -- ---- a setting
 
-module _ (f : Fixed) (h : Changing) (id : ℕ) (values : List Float) (ramp : ℕ) (e : answer f h (set id values ramp) ≡ Accepted) where
+module _ (f : Fixed) (h : Changing) (id : ℕ) (values : List Float) (ramp : ℕ) (e : answer f h (set id values ramp) ≡ Ok tt) where
   abbrev count : ℕ
   count = f.plan.nodes
 
@@ -130,26 +129,26 @@ module _ (f : Fixed) (h : Changing) (id : ℕ) (values : List Float) (ramp : ℕ
 
 -- the plan's own tests and 14 pass
 pub record Ready (f : Fixed) (h : Changing) : Type 0 where
-  pub plan : check_plan f.plan (areas_of f h) ≡ Accepted
+  pub plan : check_plan f.plan (areas_of f h) ≡ Ok tt
   pub nodes : some_bad h.words f.plan.nodes ≡ false
 
 -- so it is once a run was accepted
-pub accepted_ready : (f : Fixed) (h : Changing) (directory : List ℕ) (samples out : List Float) → answer f h (run directory samples out) ≡ Accepted → Ready f h
+pub accepted_ready : (f : Fixed) (h : Changing) (directory : List ℕ) (samples out : List Float) → answer f h (run directory samples out) ≡ Ok tt → Ready f h
 unfolding checked
 accepted_ready f h directory samples out e =
     let own = node_test f h ∷ input_tests f directory samples out in
-    let t = accepted_none (plan_tests_of f h) (first own Accepted) (sym (in_turn f h directory samples out) ∙ e) in
-    record { plan = none_accepted (plan_tests_of f h) t.0; nodes = (accepted_none own Accepted t.1).0.0 }
+    let t = accepted_none (plan_tests_of f h) (first own (Ok tt)) (sym (in_turn f h directory samples out) ∙ e) in
+    record { plan = none_accepted (plan_tests_of f h) t.0; nodes = (accepted_none own (Ok tt) t.1).0.0 }
 
 -- and then only 12 and 13 are left to the admission
 pub ready_only : (f : Fixed) (h : Changing) → Ready f h → (directory : List ℕ) (samples out : List Float)
-    → admission (given_to f directory samples) (start f h out) ≡ first (input_tests f directory samples out) Accepted
+    → admission (given_to f directory samples) (start f h out) ≡ first (input_tests f directory samples out) (Ok tt)
 unfolding checked
 ready_only f h r directory samples out =
     let others = input_tests f directory samples out in
     in_turn f h directory samples out
-    ∙ none_rest (plan_tests_of f h) (first (node_test f h ∷ others) Accepted) (accepted_none (plan_tests_of f h) Accepted r.plan).0
-    ∙ ap (λ (b : Bool). first (test bad_node b ∷ others) Accepted) r.nodes
+    ∙ none_rest (plan_tests_of f h) (first (node_test f h ∷ others) (Ok tt)) (accepted_none (plan_tests_of f h) (Ok tt) r.plan).0
+    ∙ ap (λ (b : Bool). first (test BadNode b ∷ others) (Ok tt)) r.nodes
 
 -- the nodes that an accepted plan's steps use are among its nodes
 pub below : (p : Plan) (indices : List ℕ) (coefficients : List Float) (ss : List Step) → Each (Inside p) ss → NodesBelow p.nodes (map (resolved p indices coefficients) ss)
@@ -183,15 +182,15 @@ module _ (f : Fixed) where
     run_ready = go (admission g s) refl
       where
         go : (a : Answer) → admission g s ≡ a → Ready f (left_by (processed g s))
-        go Accepted e = rw (accepted_runs g s e) ran_ready
-        go (Refused q) e = rw (refused_keeps g s e) r
+        go (Ok _) e = rw (accepted_runs g s e) ran_ready
+        go (Err q) e = rw (refused_keeps g s e) r
 
   set_ready : (h : Changing) (id : ℕ) (values : List Float) (ramp : ℕ) → Ready f h → Ready f (after f h (set id values ramp))
   set_ready h id values ramp r = go (answer f h (set id values ramp)) refl
     where
       go : (a : Answer) → answer f h (set id values ramp) ≡ a → Ready f (after f h (set id values ramp))
-      go Accepted e = alike_ready h (after f h (set id values ramp)) r (set_alike f h id values ramp e) (set_good f h id values ramp e).none_bad
-      go (Refused q) e =
+      go (Ok _) e = alike_ready h (after f h (set id values ramp)) r (set_alike f h id values ramp e) (set_good f h id values ramp e).none_bad
+      go (Err q) e =
           rw (floats_refused f.plan.nodes id values ramp h.floats h.words e, words_refused f.plan.nodes id values ramp h.floats h.words e) r
 
   -- The theorem: whatever settings and runs follow, refused or not, the plan's own tests and 14 pass.
@@ -202,15 +201,15 @@ module _ (f : Fixed) where
 
   -- so a run that is accepted is accepted after any of them too
   pub still_admitted : (h : Changing) (cs : List Call) (directory : List ℕ) (samples out : List Float)
-      → admission (given_to f directory samples) (start f h out) ≡ Accepted
-      → admission (given_to f directory samples) (start f (after_all f h cs) out) ≡ Accepted
+      → admission (given_to f directory samples) (start f h out) ≡ Ok tt
+      → admission (given_to f directory samples) (start f (after_all f h cs) out) ≡ Ok tt
   still_admitted h cs directory samples out e =
       let r : Ready f h = accepted_ready f h directory samples out e in
       ready_only f (after_all f h cs) (stays_ready cs h r) directory samples out ∙ sym (ready_only f h r directory samples out) ∙ e
 
   -- and of a setting whose ramp is not too long only the id can be refused
   pub only_unknown : (h : Changing) → Ready f h → (id : ℕ) (values : List Float) (ramp : ℕ) → ramp_too_long ramp ≡ false
-      → answer f h (set id values ramp) ≡ cond (id_among h.words f.plan.nodes id) Accepted (Refused (refusal unknown_id 0))
+      → answer f h (set id values ramp) ≡ cond (id_among h.words f.plan.nodes id) (Ok tt) (Err (refusal UnknownId None))
   unfolding setting_answer
   only_unknown h r id values ramp ok =
       let t = tested f.plan (areas_of f h) r.plan in
@@ -219,17 +218,17 @@ module _ (f : Fixed) where
       let words : shorter (length h.words) f.plan.nodes node_word_count ≡ false = le-ltb _ _ t.room.words in
       rw (nodes, floats, words, r.nodes, t.ids, ok) (go (id_among h.words f.plan.nodes id))
     where
-      go : (b : Bool) → cond (not b) (Refused (refusal unknown_id 0)) Accepted ≡ cond b Accepted (Refused (refusal unknown_id 0))
+      go : (b : Bool) → ◌≡◌ {A = Answer} (cond (not b) (Err (refusal UnknownId None)) (Ok tt)) (cond b (Ok tt) (Err (refusal UnknownId None)))
       go true = refl
       go false = refl
 
   -- a refused run changes nothing
-  pub refused_run : (h : Changing) (directory : List ℕ) (samples out : List Float) (q : Refusal) → answer f h (run directory samples out) ≡ Refused q
+  pub refused_run : (h : Changing) (directory : List ℕ) (samples out : List Float) (q : Refusal) → answer f h (run directory samples out) ≡ Err q
       → processed (given_to f directory samples) (start f h out) ≡ start f h out
   refused_run h directory samples out q e = refused_keeps (given_to f directory samples) (start f h out) e
 
   -- nor does a refused setting
-  pub refused_set : (h : Changing) (id : ℕ) (values : List Float) (ramp : ℕ) (q : Refusal) → answer f h (set id values ramp) ≡ Refused q
+  pub refused_set : (h : Changing) (id : ℕ) (values : List Float) (ramp : ℕ) (q : Refusal) → answer f h (set id values ramp) ≡ Err q
       → after f h (set id values ramp) ≡ h
   refused_set h id values ramp q e =
       rw (floats_refused f.plan.nodes id values ramp h.floats h.words e, words_refused f.plan.nodes id values ramp h.floats h.words e)

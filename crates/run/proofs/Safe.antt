@@ -5,8 +5,6 @@ use Prim.Native.Nat.{ℕ}
 use native.Mathlib.Omega.{arith}
 use lib.ListN.{length}
 use lib.Ieee.{Float}
-use Rattle.refusal.specs.declared.Answer.{Answer}
-use Rattle.refusal.specs.declared.Answer.TheVariants.{Accepted, Refused}
 use Rattle.node.specs.declared.Node.{Node}
 use Rattle.node.specs.Nodes.{set_node, finish_block}
 use Rattle.node.specs.Areas.{safe_at, node_at, words_of, stored_words}
@@ -20,6 +18,8 @@ use Rattle.run.specs.Run.{RunGiven, State, stepped, run_steps, finished, admissi
 use Rattle.run.specs.Calls.{Fixed, Changing, Call, set, run, given_to, start, after, after_all, steps_of_plan}
 use Rattle.run.proofs.Answers.{accepted_runs, refused_keeps}
 use Rattle.run.proofs.States.{ends, step_nodes}
+use Rattle.refusal.specs.Tests.{Answer}
+use Rattle.std.specs.Prelude.{Ok, Err}
 
 -- a node that is stored with the safe that it had
 stored_safe : (words : List ℕ) (n : ℕ) (node : Node) (i : ℕ) → node.safe ≡ safe_at words n → safe_at (stored_words words n node) i ≡ safe_at words i
@@ -58,10 +58,10 @@ module _ (f : Fixed) (i : ℕ) where
 
       go : (a : Answer) → setting_answer count id ramp (length h.floats) h.words ≡ a
           → safe_at (setting_words count id values ramp h.floats h.words) i ≡ safe_at h.words i
-      go Accepted e =
+      go (Ok _) e =
           rw (words_accepted count id values ramp h.floats h.words e)
           (stored_safe h.words (node_of h.words count id) (set_node node values ramp) i (safe_set node values ramp))
-      go (Refused r) e = rw (words_refused count id values ramp h.floats h.words e)
+      go (Err r) e = rw (words_refused count id values ramp h.floats h.words e)
 
   run_safe : (h : Changing) (directory : List ℕ) (samples out : List Float) → safe_at (after f h (run directory samples out)).words i ≡ safe_at h.words i
   run_safe h directory samples out = go (admission g s) refl
@@ -73,8 +73,8 @@ module _ (f : Fixed) (i : ℕ) where
       s = start f h out
 
       go : (a : Answer) → admission g s ≡ a → safe_at (processed g s).words i ≡ safe_at h.words i
-      go Accepted e = rw (accepted_runs g s e) (steps_safe f.plan.block i (lookup directory samples) (steps_of_plan f) s)
-      go (Refused q) e = rw (refused_keeps g s e)
+      go (Ok _) e = rw (accepted_runs g s e) (steps_safe f.plan.block i (lookup directory samples) (steps_of_plan f) s)
+      go (Err q) e = rw (refused_keeps g s e)
 
   -- after any settings and runs every safe is what it was
   pub safe_stays : (cs : List Call) (h : Changing) → safe_at (after_all f h cs).words i ≡ safe_at h.words i

@@ -8,8 +8,6 @@ use borrow.Author.Tests.{eqb-false, ne_eqb}
 use lib.Dec.{eqb}
 use lib.ListN.{length}
 use lib.Ieee.{Float}
-use Rattle.refusal.specs.declared.Answer.{Answer}
-use Rattle.refusal.specs.declared.Answer.TheVariants.{Accepted, Refused}
 use Rattle.lists.specs.Entries.{times, AllBelow}
 use Rattle.node.specs.declared.Node.{Node}
 use Rattle.node.specs.Sizes.{node_float_count}
@@ -29,6 +27,8 @@ use Rattle.run.proofs.Answers.{accepted_runs, refused_keeps}
 use Rattle.run.proofs.States.{ends, step_nodes, NodesBelow}
 use Rattle.run.proofs.Admitted.{areas_of_lem, admitted}
 use Rattle.run.proofs.Ready.{below}
+use Rattle.refusal.specs.Tests.{Answer}
+use Rattle.std.specs.Prelude.{Ok, Err}
 
 module _ (count m : ℕ) where
   abbrev node_of : State → Node
@@ -87,7 +87,7 @@ module _ (count m : ℕ) where
 
 -- ---- the call, refused or not
 module _ (g : RunGiven) (s : State) (m : ℕ) where
-  accepted_below : admission g s ≡ Accepted → NodesBelow g.plan.nodes (steps_of_run g)
+  accepted_below : admission g s ≡ Ok tt → NodesBelow g.plan.nodes (steps_of_run g)
   accepted_below e =
       let a = areas_of_lem g s in
       below g.plan g.indices g.coefficients (steps_of g.plan g.steps)
@@ -97,15 +97,15 @@ module _ (g : RunGiven) (s : State) (m : ℕ) where
   process_unused u = go (admission g s) refl
     where
       go : (a : Answer) → admission g s ≡ a → node_at (processed g s).floats (processed g s).words m ≡ node_at s.floats s.words m
-      go Accepted e =
+      go (Ok _) e =
           rw (accepted_runs g s e)
           (steps_unused g.plan.nodes m g.plan.block (lookup g.directory g.samples) (steps_of_run g) s (accepted_below e)
           (accepted_room g.plan (areas_of_lem g s) (admitted g s e).plan).floats u)
-      go (Refused r) e = rw (refused_keeps g s e) refl
+      go (Err r) e = rw (refused_keeps g s e) refl
 
   pub process_past_nodes : g.plan.nodes ≤ m → node_at (processed g s).floats (processed g s).words m ≡ node_at s.floats s.words m
   process_past_nodes h = go (admission g s) refl
     where
       go : (a : Answer) → admission g s ≡ a → node_at (processed g s).floats (processed g s).words m ≡ node_at s.floats s.words m
-      go Accepted e = process_unused (past_unused g.plan.nodes m h (steps_of_run g) (accepted_below e))
-      go (Refused r) e = rw (refused_keeps g s e) refl
+      go (Ok _) e = process_unused (past_unused g.plan.nodes m h (steps_of_run g) (accepted_below e))
+      go (Err r) e = rw (refused_keeps g s e) refl

@@ -1,9 +1,7 @@
 -- Lists of settings and runs of a plan: each call gets the plan's record as it is and the plan's areas as the call before left them.
 -- Definitions only.
-use Rattle.std.specs.Prelude.{ℕ, ◌+◌, ◌≡◌, List, [], ◌∷◌, length, Float}
-use Rattle.refusal.specs.Tests.{outcome}
-use Rattle.refusal.specs.declared.Answer.{Answer}
-use Rattle.refusal.specs.declared.Answer.TheVariants.{Accepted}
+use Rattle.std.specs.Prelude.{ℕ, ◌+◌, ◌≡◌, List, [], ◌∷◌, length, Float, Ok}
+use Rattle.refusal.specs.Tests.{outcome, Answer}
 use Rattle.lists.specs.Entries.{times}
 use Rattle.plan.specs.declared.Plan.{Plan}
 use Rattle.plan.specs.Resolved.{Resolved, resolved_steps, node_named}
@@ -66,7 +64,7 @@ module _ (f : Fixed) where
   -- no setting of the list that is accepted is of this id
   abbrev pub NotSet : ℕ → Changing → List Call → Type 0
   NotSet i h [] = Unit {0}
-  NotSet i h (set id values ramp ∷ cs) = (answer h (set id values ramp) ≡ Accepted → i ≡ id → ⊥) × NotSet i (after h (set id values ramp)) cs
+  NotSet i h (set id values ramp ∷ cs) = (answer h (set id values ramp) ≡ Ok tt → i ≡ id → ⊥) × NotSet i (after h (set id values ramp)) cs
   NotSet i h (run directory samples out ∷ cs) = NotSet i (after h (run directory samples out)) cs
 
   abbrev pub steps_of_plan : List Resolved

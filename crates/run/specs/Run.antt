@@ -1,9 +1,6 @@
 -- A run of a plan over one block: the state that its steps change, each step, the admission, and the whole call. Definitions only.
-use Rattle.std.specs.Prelude.{ℕ, ◌+◌, ◌*◌, List, [], ◌∷◌, ◌++◌, ltb, length, Float}
-use Rattle.refusal.specs.Numbers.{bad_directory, short_output, bad_node}
-use Rattle.refusal.specs.Tests.{Test, test, first, outcome}
-use Rattle.refusal.specs.declared.Answer.{Answer}
-use Rattle.refusal.specs.declared.Answer.TheVariants.{Accepted}
+use Rattle.std.specs.Prelude.{ℕ, ◌+◌, ◌*◌, List, [], ◌∷◌, ◌++◌, ltb, length, Float, Ok, Err, Result}
+use Rattle.refusal.specs.Tests.{Test, test, first, outcome, Answer}
 use Rattle.node.specs.declared.Gain.{Gain}
 use Rattle.node.specs.Nodes.{gain_of}
 use Rattle.node.specs.Areas.{node_at, stored_floats, stored_words, ended, some_bad}
@@ -14,8 +11,8 @@ use Rattle.plan.specs.Areas.{areas, short_areas}
 use Rattle.plan.specs.Check.{plan_tests}
 use Rattle.plan.specs.Resolved.{Resolved, patch, gain, matrix, clear, send, output, resolved_steps, channels_out}
 use Rattle.input.specs.Input.{lookup, directory_bad}
-use Rattle.run.specs.declared.Ran.{Ran}
-use Rattle.run.specs.declared.Ran.TheVariants as ran
+use Rattle.refusal.specs.declared.Reason.TheVariants.{BadDirectory, BadNode, ShortOutput}
+use Rattle.refusal.specs.declared.Refusal.{Refusal}
 
 -- what a run only reads
 pub record RunGiven : Type 0 where
@@ -85,14 +82,14 @@ steps_of_run g = resolved_steps g.plan g.indices g.coefficients g.steps
 abbrev pub run_tests : RunGiven → State → List Test
 run_tests g s =
     plan_tests g.plan (short_areas g.plan (areas g.indices g.coefficients s.floats s.words g.steps s.buffers)) g.indices s.words g.steps
-    ++ test bad_node (some_bad s.words g.plan.nodes)
-    ∷ test bad_directory (directory_bad g.directory (length g.samples))
-    ∷ test short_output (ltb (length s.output) (output_channels (steps_of_run g) * g.plan.block))
+    ++ test BadNode (some_bad s.words g.plan.nodes)
+    ∷ test BadDirectory (directory_bad g.directory (length g.samples))
+    ∷ test ShortOutput (ltb (length s.output) (output_channels (steps_of_run g) * g.plan.block))
     ∷ []
 
 unfoldable pub admission : RunGiven → State → Answer
 unfolding directory_bad output_channels
-admission g s = first (run_tests g s) Accepted
+admission g s = first (run_tests g s) (Ok tt)
 
 -- ---- the call
 
@@ -102,6 +99,6 @@ unfolding admission run_steps lookup
 processed g s = outcome (admission g s) (run_steps g.plan.block (lookup g.directory g.samples) (steps_of_run g) s) (λ _. s)
 
 -- what it answers: the samples written, or the refusal
-unfoldable pub process_answer : RunGiven → State → Ran
+unfoldable pub process_answer : RunGiven → State → Result ℕ Refusal
 unfolding admission processed
-process_answer g s = outcome (admission g s) (ran.Wrote (processed g s).wrote) ran.Refused
+process_answer g s = outcome (admission g s) (Ok (processed g s).wrote) Err

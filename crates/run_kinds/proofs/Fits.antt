@@ -12,11 +12,13 @@ use borrow.Author.Tests.{le-leb, lt-leb}
 use Rattle.lists.specs.Entries.{some_from, Disjoint}
 use Rattle.lists.proofs.Entries.{some_none}
 use Rattle.node.specs.Sizes.{max_values, node_float_count}
+use Rattle.node.specs.declared.Rows.{Rows}
+use Rattle.node.specs.Rows.{Values}
 use Rattle.node.specs.Areas.{Room, len_at, cur_at, target_at, step_at, node_at}
 use Rattle.node.proofs.Areas.{length_rows}
 use Rattle.node.proofs.Bad.{none_bad_at}
 use Rattle.mix.specs.Samples.{silence, put}
-use Rattle.mix.specs.Mix.{AllInside, Buffers, Values, patched}
+use Rattle.mix.specs.Mix.{AllInside, Buffers, patched}
 use Rattle.mix.specs.Mix as mix
 use Rattle.mix.proofs.Given.{buffer_inside}
 use Rattle.plan.specs.declared.Plan.{Plan}
@@ -53,8 +55,8 @@ pub used_named : (indices : List ℕ) (s d : Span) → Within (length indices) d
 used_named indices s d h es ed = used_sources indices s d es ed h
 
 -- ---- the rows of a node, as the sample loops take them
-pub rows_values : (floats : List Float) (n m : ℕ) → (n + 1) * node_float_count ≤ length floats → m ≤ max_values → {cur step target : List Float}
-    → cur ≡ cur_at floats n → target ≡ target_at floats n → step ≡ step_at floats n → Values m cur step target
+pub rows_values : (floats : List Float) (n m : ℕ) → (n + 1) * node_float_count ≤ length floats → m ≤ max_values → {rows : Rows}
+    → rows.cur.now ≡ cur_at floats n → rows.target.now ≡ target_at floats n → rows.step.now ≡ step_at floats n → Values m rows
 rows_values floats n m r h c t s =
     let l = length_rows floats n r in
     record { curs = rw (c, l.0) h; steps = rw (s, l.2) h; targets = rw (t, l.1) h }

@@ -43,14 +43,10 @@ fn gain_buffers(
     requires narrow { Narrow (step.Gain node src dst) × Apart indices.now (step.Gain node src dst) }
     ensures { buffers.new ≡ gained plan.block (gain_of (node_at floats.now words.now node)) 0 (named indices.now src) (named indices.now dst) buffers.old }
 {
-    let n = node as usize;
-    let cur = node_areas::cur_of(floats, n);
-    let target = node_areas::target_of(floats, n);
-    let step = node_areas::step_of(floats, n);
-    let left = node_areas::left_of(words, n);
+    let rows = node_areas::rows_of(floats, words, node as usize);
     let from = plan_steps::numbers(indices, src);
     let to = plan_steps::numbers(indices, dst);
-    mix_buffers::gain(buffers, plan.block, from, to, cur, step, target, left);
+    mix_buffers::gain(buffers, plan.block, from, to, rows);
 }
 
 // The buffers after a Matrix. Requires what the tests said of it.
@@ -69,14 +65,10 @@ fn matrix_buffers(
     requires narrow { Narrow (step.Matrix node src dst) × Apart indices.now (step.Matrix node src dst) }
     ensures { buffers.new ≡ rows plan.block (gain_of (node_at floats.now words.now node)) 0 (named indices.now src) (named indices.now dst) buffers.old }
 {
-    let n = node as usize;
-    let cur = node_areas::cur_of(floats, n);
-    let target = node_areas::target_of(floats, n);
-    let step = node_areas::step_of(floats, n);
-    let left = node_areas::left_of(words, n);
+    let rows = node_areas::rows_of(floats, words, node as usize);
     let from = plan_steps::numbers(indices, src);
     let to = plan_steps::numbers(indices, dst);
-    mix_matrix::matrix(buffers, plan.block, from, to, cur, step, target, left);
+    mix_matrix::matrix(buffers, plan.block, from, to, rows);
 }
 
 // The buffers after a Send, by the weights `w`. Requires what the tests said of it.

@@ -10,7 +10,6 @@ use lib.Ieee.{Float}
 use Rattle.node.specs.Areas.{some_bad, id_at}
 use Rattle.plan.specs.declared.Plan.{Plan}
 use Rattle.plan.specs.declared.Step.{Step}
-use Rattle.plan.specs.declared.Read.TheVariants.{Found, Bad}
 use Rattle.plan.specs.Words.{read_at, decoded_from, decoded}
 use Rattle.plan.specs.Resolved.{Resolved, resolved, node_named}
 use Rattle.plan.specs.Sound.{Within, Names, Placed, Passes}
@@ -23,6 +22,7 @@ use Rattle.run.specs.Run.{State, stepped, run_steps}
 use Rattle.run.specs.Loops.{Fit, FitStep}
 use Rattle.run.proofs.Outputs.{wrote_more}
 use Rattle.run.proofs.States.{Good, step_nodes, good_ends}
+use Rattle.std.specs.Prelude.{Some, None}
 
 -- a step makes no node bad
 module _ (p : Plan) (indices : List ℕ) (coefficients : List Float) (block : ℕ) (input : ℕ → ℕ → List Float) (s : State) where
@@ -68,7 +68,7 @@ module _ (p : Plan) (indices : List ℕ) (coefficients : List Float) (input : �
       }
 
   module _ (at i : ℕ) (s : State) (c : Going at i s) where
-    module _ (h : i < p.steps) {x : Step} {next : ℕ} (r : read_at w at ≡ Found x next) where
+    module _ (h : i < p.steps) {x : Step} {next : ℕ} (r : read_at w at ≡ Some (x, next)) where
       room_here : s.wrote + (channels x * p.block + channels_of (from (i + 1) next) * p.block) ≤ length s.output
       unfolding channels_of
       room_here =
@@ -118,7 +118,7 @@ module _ (p : Plan) (indices : List ℕ) (coefficients : List Float) (input : �
     unfolding run_steps
     ends e = sym (c.so ∙ ap (λ (l : List Step). run_steps p.block input (steps_of l) s) e)
 
-    pub going_bad : i < p.steps → read_at w at ≡ Bad → s ≡ run_steps p.block input (steps_of (decoded w p.steps)) s₀
+    pub going_bad : i < p.steps → read_at w at ≡ None → s ≡ run_steps p.block input (steps_of (decoded w p.steps)) s₀
     going_bad h r = ends (decoded_bad w at (rest_of h) r)
 
     pub going_ends : p.steps ≤ i → s ≡ run_steps p.block input (steps_of (decoded w p.steps)) s₀

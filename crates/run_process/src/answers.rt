@@ -2,9 +2,9 @@
 ghost use Rattle.std.specs.Prelude.{◌≡◌};
 ghost use Rattle.run.specs.Run.{given, state, admission};
 
-use plan::{Counted, Plan};
+use plan::Plan;
 use plan_check::count_channels;
-use refusal::{Answer, Refusal};
+use refusal::{Answer, Reason};
 
 // The plan check, then 14, 12 and 13.
 pub fn admission(
@@ -22,21 +22,15 @@ pub fn admission(
     ensures { result ≡ admission (given plan indices.now coefficients.now steps.now directory.now samples.now)
         (state floats.now words.now buffers.now output.now 0) }
 {
-    let counted = count_channels(plan, indices, coefficients, floats, words, steps, buffers);
-    let channels = match counted {
-        Counted::Refused(r) => {
-            return Answer::Refused(r);
-        }
-        Counted::Channels(n) => n,
-    };
+    let channels = count_channels(plan, indices, coefficients, floats, words, steps, buffers)?;
     if node_areas::any_bad(words, plan.nodes) {
-        return Answer::refused(Refusal::BAD_NODE);
+        return Err(Reason::BadNode.into());
     }
     if input::directory_bad(directory, samples.len()) {
-        return Answer::refused(Refusal::BAD_DIRECTORY);
+        return Err(Reason::BadDirectory.into());
     }
     if plan_areas::shorter(output.len(), channels, plan.block) {
-        return Answer::refused(Refusal::SHORT_OUTPUT);
+        return Err(Reason::ShortOutput.into());
     }
-    Answer::Accepted
+    Ok(())
 }

@@ -10,8 +10,7 @@ ghost use Rattle.run.specs.Run.{given, state, processed, process_answer};
 
 pub use answers::admission;
 use plan::Plan;
-use refusal::Answer;
-use run::Ran;
+use refusal::Refusal;
 pub use steps::run_block;
 
 // One block of a plan: its steps, in order, over the lent areas.
@@ -26,14 +25,14 @@ pub fn process(
     directory: &[u32],
     samples: &[f32],
     output: &mut [f32],
-) -> Ran
+) -> Result<usize, Refusal>
     ensures answer { result ≡ process_answer (given plan indices.now coefficients.now steps.now directory.now samples.now) (state node_floats.old node_words.old buffers.old output.old 0) }
     ensures floats { node_floats.new ≡ (processed (given plan indices.now coefficients.now steps.now directory.now samples.now) (state node_floats.old node_words.old buffers.old output.old 0)).floats }
     ensures words { node_words.new ≡ (processed (given plan indices.now coefficients.now steps.now directory.now samples.now) (state node_floats.old node_words.old buffers.old output.old 0)).words }
     ensures buffers { buffers.new ≡ (processed (given plan indices.now coefficients.now steps.now directory.now samples.now) (state node_floats.old node_words.old buffers.old output.old 0)).buffers }
     ensures output { output.new ≡ (processed (given plan indices.now coefficients.now steps.now directory.now samples.now) (state node_floats.old node_words.old buffers.old output.old 0)).output }
 {
-    let answer = admission(
+    admission(
         plan,
         indices,
         coefficients,
@@ -44,12 +43,9 @@ pub fn process(
         directory,
         samples,
         &output[..],
-    );
-    if let Answer::Refused(r) = answer {
-        return Ran::Refused(r);
-    }
+    )?;
     let count = plan.words;
-    Ran::Wrote(run_block(
+    Ok(run_block(
         plan,
         indices,
         coefficients,

@@ -9,7 +9,7 @@ ghost use Rattle.input.specs.Loops.{Ends};
 ghost use Rattle.run.specs.Run.{state, stepped, run_steps};
 ghost use Rattle.run.specs.Loops.{Fit, FitStep};
 
-use plan::{Plan, Read, Step};
+use plan::{Plan, Step};
 use run_kinds::{patch, run_clear, run_gain, run_matrix, run_output, run_send, weights};
 
 // A step, after `wrote` samples of output; the answer is how many are written then. Requires what the tests said of the plan and of it, and
@@ -28,7 +28,8 @@ fn run_step(
     wrote: usize,
     step: Step,
 ) -> usize
-    requires fit_step { FitStep plan indices.now coefficients.now (state floats.old words.old buffers.old output.old wrote) step × (wrote + channels step * plan.block ≤ length output.old) }
+    requires fit_step { FitStep plan indices.now coefficients.now (state floats.old words.old buffers.old output.old wrote) step }
+    requires output_room { wrote + channels step * plan.block ≤ length output.old }
     requires ends { Ends directory.now (entries directory.now) ends.now }
     ensures { state floats.new words.new buffers.new output.new result
         ≡ stepped plan.block (lookup directory.now samples.now) (resolved plan indices.now coefficients.now step) (state floats.old words.old buffers.old output.old wrote) }
@@ -82,14 +83,14 @@ fn run_steps(
 ) -> usize
     requires fit { Fit plan coefficients.now (state floats.old words.old buffers.old output.old 0) × Passes plan indices.now steps.now plan.steps 0 }
     requires ends { Ends directory.now (entries directory.now) ends.now }
-    requires block_in_bounds { channels_of (decoded steps.now plan.steps) * plan.block ≤ length output.old }
+    requires output_room { channels_of (decoded steps.now plan.steps) * plan.block ≤ length output.old }
     ensures { state floats.new words.new buffers.new output.new result
         ≡ run_steps plan.block (lookup directory.now samples.now) (map (resolved plan indices.now coefficients.now) (decoded steps.now plan.steps)) (state floats.old words.old buffers.old output.old 0) }
 {
     let mut wrote = 0;
     let mut at = 0;
     for i in 0..plan.steps {
-        let Read::Found(step, next) = plan_reader::read_step(steps, at) else {
+        let Some((step, next)) = plan_reader::read_step(steps, at) else {
             return wrote;
         };
         wrote = run_step(
@@ -125,7 +126,8 @@ pub fn run_block(
     output: &mut [f32],
 ) -> usize
     requires fit { Fit plan coefficients.now (state floats.old words.old buffers.old output.old 0) × Passes plan indices.now steps.now plan.steps 0 }
-    requires block_in_bounds { (channels_of (decoded steps.now plan.steps) * plan.block ≤ length output.old) × (entries directory.now ≤ max_entries) }
+    requires output_room { channels_of (decoded steps.now plan.steps) * plan.block ≤ length output.old }
+    requires few_entries { entries directory.now ≤ max_entries }
     ensures { state floats.new words.new buffers.new output.new result
         ≡ run_steps plan.block (lookup directory.now samples.now) (map (resolved plan indices.now coefficients.now) (decoded steps.now plan.steps)) (state floats.old words.old buffers.old output.old 0) }
 {

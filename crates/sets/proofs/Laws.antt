@@ -2,20 +2,19 @@
 -- Assumes nothing.
 use Prim.Native.Nat.{ℕ, zero, suc, ◌/◌, ◌%◌, ◌^◌, ◌<◌, ◌≤◌}
 use mathlib.Core.Path.{◌≡◌, refl, sym, ap, ◌∙◌}
-use mathlib.Core.Bool.{Bool, true, false, not, ◌&&◌, ◌||◌, cond}
+use mathlib.Core.Bool.{Bool, true, false, not, ◌&&◌, ◌||◌, or-false}
+use mathlib.Core.List.{[], ◌∷◌}
 use native.Mathlib.Omega.{arith}
 use lib.Dec.{eqb}
 use lib.Bits.{bit_or}
-use lib.ListN.{length, get_or}
+use lib.ListN.{length, get_or, set, get_or-eq_default}
 use borrow.Author.Tests.{eqb-true, eqb-false, eq-eqb, ne_eqb}
+use Rattle.std.proofs.lemmas.Grind.{get_or-set_at}
+use Rattle.std.proofs.lemmas.List.{get_or-set_other}
 use Rattle.sets.specs.declared.Set.{Set}
-use Rattle.sets.specs.Sets.{bit, words, member, sift, members, only, set_size}
+use Rattle.sets.specs.Sets.{bit, member, sift, members, set_size, set_words}
 use Rattle.sets.proofs.Sift.{sift_same, length_sift}
 use Rattle.sets.proofs.Bits.{bit_zero, bit_power, bit_or_lem, cleared, bit_cleared}
-
--- a set by its words
-abbrev pub set : ℕ → ℕ → ℕ → ℕ → Set
-set a b c d = record { w0 = a; w1 = b; w2 = c; w3 = d }
 
 -- a rule of the four words and of what is read past them
 by_word : (P : ℕ → Type 0) → P 0 → P 1 → P 2 → P 3 → ((k : ℕ) → P (suc (suc (suc (suc k))))) → (k : ℕ) → P k
@@ -25,59 +24,79 @@ by_word P p0 p1 p2 p3 past (suc (suc zero)) = p2
 by_word P p0 p1 p2 p3 past (suc (suc (suc zero))) = p3
 by_word P p0 p1 p2 p3 past (suc (suc (suc (suc k)))) = past k
 
+past_words : (s : Set) → length s.words ≡ set_words → (k : ℕ) → get_or s.words (suc (suc (suc (suc k)))) 0 ≡ 0
+past_words s four k = get_or-eq_default s.words 0 (omega (arith, four))
+
 -- ---- the empty set
-pub member_empty : (j : ℕ) → member (set 0 0 0 0) j ≡ false
+pub member_empty : (j : ℕ) → member (record { words = 0 ∷ 0 ∷ 0 ∷ 0 ∷ [] }) j ≡ false
 unfolding member
 member_empty j =
-    ap (λ (w : ℕ). bit w (j % 64)) (by_word (λ k. get_or (words (set 0 0 0 0)) k 0 ≡ 0) refl refl refl refl (λ k. refl) (j / 64)) ∙ bit_zero (j % 64)
+    ap (λ (w : ℕ). bit w (j % 64)) (by_word (λ k. ◌≡◌ {A = ℕ} (get_or (0 ∷ 0 ∷ 0 ∷ 0 ∷ []) k 0) 0) refl refl refl refl (λ k. refl) (j / 64)) ∙ bit_zero (j % 64)
+
+-- a set of no words has no member either
+pub member_none : (j : ℕ) → member (record { words = [] }) j ≡ false
+unfolding member
+member_none j = bit_zero (j % 64)
 
 -- ---- a set made of two, word by word
-abbrev worded : (ℕ → ℕ → ℕ) → Set → Set → Set
-worded f a b = set (f a.w0 b.w0) (f a.w1 b.w1) (f a.w2 b.w2) (f a.w3 b.w3)
+module _ (a b : Set) where
+  abbrev worded : (ℕ → ℕ → ℕ) → Set
+  worded f =
+      record {
+        words =
+            f (get_or a.words 0 0) (get_or b.words 0 0)
+            ∷ f (get_or a.words 1 0) (get_or b.words 1 0)
+            ∷ f (get_or a.words 2 0) (get_or b.words 2 0)
+            ∷ f (get_or a.words 3 0) (get_or b.words 3 0)
+            ∷ [];
+      }
 
-member_worded : (f : ℕ → ℕ → ℕ) (g : Bool → Bool → Bool) → 0 ≡ f 0 0 → ((x y i : ℕ) → bit (f x y) i ≡ g (bit x i) (bit y i))
-    → (a b : Set) (j : ℕ) → member (worded f a b) j ≡ g (member a j) (member b j)
-unfolding member
-member_worded f g none bits a b j =
-    ap (λ (w : ℕ). bit w (j % 64))
-    (by_word (λ k. get_or (words (worded f a b)) k 0 ≡ f (get_or (words a) k 0) (get_or (words b) k 0)) refl refl refl refl (λ k. none) (j / 64))
-    ∙ bits (get_or (words a) (j / 64) 0) (get_or (words b) (j / 64) 0) (j % 64)
+  module _ (four : length a.words ≡ set_words) (other_four : length b.words ≡ set_words) where
+    member_worded : (f : ℕ → ℕ → ℕ) (g : Bool → Bool → Bool) → 0 ≡ f 0 0 → ((x y i : ℕ) → bit (f x y) i ≡ g (bit x i) (bit y i))
+        → (j : ℕ) → member (worded f) j ≡ g (member a j) (member b j)
+    unfolding member
+    member_worded f g none bits j =
+        ap (λ (w : ℕ). bit w (j % 64))
+        (by_word (λ k. get_or (worded f).words k 0 ≡ f (get_or a.words k 0) (get_or b.words k 0)) refl refl refl refl
+        (λ k. rw (past_words a four k, past_words b other_four k) none) (j / 64))
+        ∙ bits (get_or a.words (j / 64) 0) (get_or b.words (j / 64) 0) (j % 64)
 
-abbrev pub union : Set → Set → Set
-union = worded bit_or
+    pub member_union : (j : ℕ) → member (worded bit_or) j ≡ (member a j || member b j)
+    member_union = member_worded bit_or ◌||◌ refl bit_or_lem
 
-pub member_union : (a b : Set) (j : ℕ) → member (union a b) j ≡ (member a j || member b j)
-member_union = member_worded bit_or ◌||◌ refl bit_or_lem
+    pub member_without : (j : ℕ) → member (worded cleared) j ≡ (member a j && not (member b j))
+    member_without = member_worded cleared (λ p q. p && not q) refl bit_cleared
 
-abbrev pub without : Set → Set → Set
-without = worded cleared
+-- ---- one number more
+module _ (s : Set) (i : ℕ) (four : length s.words ≡ set_words) (h : i < set_size) where
+  abbrev place : ℕ
+  place = i / 64
 
-pub member_without : (a b : Set) (j : ℕ) → member (without a b) j ≡ (member a j && not (member b j))
-member_without = member_worded cleared (λ p q. p && not q) refl bit_cleared
+  abbrev more : ℕ
+  more = bit_or (get_or s.words place 0) (2 ^ (i % 64))
 
--- ---- one number
-abbrev pub single : ℕ → Set
-single i = set (only i 0) (only i 1) (only i 2) (only i 3)
+  same_place : (j : ℕ) → j / 64 ≡ place → (b : Bool) → eqb (j % 64) (i % 64) ≡ b → b ≡ eqb j i
+  same_place j e true q = let g = eqb-true (j % 64) (i % 64) q in sym (eq-eqb j i (omega arith))
+  same_place j e false q = sym (ne_eqb j i (λ g. eqb-false (j % 64) (i % 64) q (omega arith)))
 
-member_single : (i j : ℕ) → i < set_size → member (single i) j ≡ eqb j i
-unfolding member
-member_single i j h =
-    ap (λ (w : ℕ). bit w (j % 64)) (by_word (λ k. get_or (words (single i)) k 0 ≡ only i k) refl refl refl refl past (j / 64))
-    ∙ go (eqb (i / 64) (j / 64)) refl
-  where
-    past : (k : ℕ) → 0 ≡ only i (suc (suc (suc (suc k))))
-    past k = rw (ne_eqb (i / 64) (suc (suc (suc (suc k)))) (λ e. omega arith))
-
-    same : i / 64 ≡ j / 64 → (b : Bool) → eqb (j % 64) (i % 64) ≡ b → b ≡ eqb j i
-    same e true q = let g = eqb-true (j % 64) (i % 64) q in sym (eq-eqb j i (omega arith))
-    same e false q = sym (ne_eqb j i (λ g. eqb-false (j % 64) (i % 64) q (omega arith)))
-
-    go : (b : Bool) → eqb (i / 64) (j / 64) ≡ b → bit (cond b (2 ^ (i % 64)) 0) (j % 64) ≡ eqb j i
-    go true e = bit_power (i % 64) (j % 64) ∙ same (eqb-true (i / 64) (j / 64) e) (eqb (j % 64) (i % 64)) refl
-    go false e = bit_zero (j % 64) ∙ sym (ne_eqb j i (λ g. eqb-false (i / 64) (j / 64) e (omega arith)))
-
-pub member_with : (s : Set) (i j : ℕ) → i < set_size → member (union s (single i)) j ≡ (member s j || eqb j i)
-member_with s i j h = member_union s (single i) j ∙ ap (λ (b : Bool). member s j || b) (member_single i j h)
+  pub member_with : (j : ℕ) → member (record { words = set s.words place more }) j ≡ (member s j || eqb j i)
+  unfolding member
+  member_with j = go (eqb (j / 64) place) refl
+    where
+      go : (b : Bool) → eqb (j / 64) place ≡ b
+          → bit (get_or (set s.words place more) (j / 64) 0) (j % 64) ≡ (bit (get_or s.words (j / 64) 0) (j % 64) || eqb j i)
+      go true q =
+          let e : j / 64 ≡ place = eqb-true (j / 64) place q in
+          ap (λ (w : ℕ). bit w (j % 64)) (get_or-set_at s.words place (j / 64) more 0 e (omega (arith, four)))
+          ∙ bit_or_lem (get_or s.words place 0) (2 ^ (i % 64)) (j % 64)
+          ∙ ap (λ (k : ℕ). bit (get_or s.words k 0) (j % 64) || bit (2 ^ (i % 64)) (j % 64)) (sym e)
+          ∙ ap (λ (b : Bool). bit (get_or s.words (j / 64) 0) (j % 64) || b)
+          (bit_power (i % 64) (j % 64) ∙ same_place j e (eqb (j % 64) (i % 64)) refl)
+      go false q =
+          let n : j / 64 ≡ place → ⊥ = eqb-false (j / 64) place q in
+          ap (λ (w : ℕ). bit w (j % 64)) (get_or-set_other s.words place (j / 64) more 0 n)
+          ∙ sym (or-false (bit (get_or s.words (j / 64) 0) (j % 64)))
+          ∙ ap (λ (b : Bool). bit (get_or s.words (j / 64) 0) (j % 64) || b) (sym (ne_eqb j i (λ g. n (ap (λ (k : ℕ). k / 64) g))))
 
 -- ---- the list of the members
 module _ (s : Set) where

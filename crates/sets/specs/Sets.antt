@@ -14,12 +14,9 @@ set_words = 4
 abbrev pub bit : ℕ → ℕ → Bool
 bit w i = eqb (w / 2 ^ i % 2) 1
 
-abbrev pub words : Set → List ℕ
-words s = s.w0 ∷ s.w1 ∷ s.w2 ∷ s.w3 ∷ []
-
 -- whether i is in the set: from `set_size` on there is no word, and it is not
 unfoldable pub member : Set → ℕ → Bool
-member s i = bit (get_or (words s) (i / 64) 0) (i % 64)
+member s i = bit (get_or s.words (i / 64) 0) (i % 64)
 
 -- those of the n numbers from i on that pass a test, ascending
 unfoldable pub sift : (ℕ → Bool) → ℕ → ℕ → List ℕ
@@ -31,10 +28,6 @@ abbrev pub members : Set → List ℕ
 members s = sift (member s) 0 set_size
 
 -- ---- for the functions on one word
-
--- word k of the set that has only i
-abbrev pub only : ℕ → ℕ → ℕ
-only i k = cond (eqb (i / 64) k) (2 ^ (i % 64)) 0
 
 -- base + i for each of the n lowest bits i of w that is 1, ascending
 unfoldable pub places : ℕ → ℕ → ℕ → List ℕ

@@ -5,25 +5,12 @@
 
 ghost use Rattle.std.specs.Prelude.{◌≡◌, false, not, ◌&&◌, ◌||◌, ◌++◌, ℕ, ◌+◌, ◌<◌, ◌≤◌, eqb, length, drop, get_or};
 ghost use Rattle.std.proofs.lemmas.List.Edits.{sets};
-ghost use Rattle.sets.specs.Sets.{words, member, members, only, places, set_size};
+ghost use Rattle.sets.specs.Sets.{member, members, places, set_size};
 
 // The number i is in the set where bit i % 64 of word i / 64 is 1.
-#[derive(Clone, Copy)]
+#[derive(Clone, Copy, Debug, PartialEq, Eq)]
 pub struct Set {
-    pub w0: u64,
-    pub w1: u64,
-    pub w2: u64,
-    pub w3: u64,
-}
-
-// Word k of the set that has only i.
-fn only(i: u32, k: u32) -> u64
-    ensures { result ≡ only i k }
-{
-    if i / 64 == k {
-        return 1u64 << (i % 64);
-    }
-    0
+    pub words: [u64; Set::WORDS],
 }
 
 // Writes the members that one word holds, whose lowest bit is the number `base`, to `out` from `at` on, and returns the place after them.
@@ -35,9 +22,9 @@ fn list_word(word: u64, base: u16, at: usize, out: &mut [u16]) -> usize
     let mut rest = word;
     let mut n = at;
     while rest != 0 {
-        out[n] = base + u64::trailing_zeros(rest) as u16;
+        out[n] = base + rest.trailing_zeros() as u16;
         // Without the lowest bit that is 1.
-        rest = rest & (rest - 1);
+        rest &= rest - 1;
         n += 1;
     }
     n
@@ -50,10 +37,7 @@ impl Set {
         ensures { (j : ℕ) → member result j ≡ false }
     {
         Set {
-            w0: 0,
-            w1: 0,
-            w2: 0,
-            w3: 0,
+            words: [0; Set::WORDS],
         }
     }
 
@@ -62,23 +46,17 @@ impl Set {
         requires { i < set_size }
         ensures { (j : ℕ) → member result j ≡ (member self j || eqb j i) }
     {
-        Set {
-            w0: self.w0 | only(i, 0),
-            w1: self.w1 | only(i, 1),
-            w2: self.w2 | only(i, 2),
-            w3: self.w3 | only(i, 3),
-        }
+        let mut words = self.words;
+        words[(i / 64) as usize] |= 1u64 << (i % 64);
+        Set { words }
     }
 
     fn word(self, k: u32) -> u64
-        ensures { result ≡ get_or (words self) k 0 }
+        ensures { result ≡ get_or self.words k 0 }
     {
-        match k {
-            0 => self.w0,
-            1 => self.w1,
-            2 => self.w2,
-            3 => self.w3,
-            _ => 0,
+        match self.words.get(k as usize) {
+            Some(&word) => word,
+            None => 0,
         }
     }
 
@@ -92,10 +70,12 @@ impl Set {
         ensures { (j : ℕ) → member result j ≡ (member self j || member other j) }
     {
         Set {
-            w0: self.w0 | other.w0,
-            w1: self.w1 | other.w1,
-            w2: self.w2 | other.w2,
-            w3: self.w3 | other.w3,
+            words: [
+                self.words[0] | other.words[0],
+                self.words[1] | other.words[1],
+                self.words[2] | other.words[2],
+                self.words[3] | other.words[3],
+            ],
         }
     }
 
@@ -104,20 +84,23 @@ impl Set {
         ensures { (j : ℕ) → member result j ≡ (member self j && not (member other j)) }
     {
         Set {
-            w0: self.w0 ^ (self.w0 & other.w0),
-            w1: self.w1 ^ (self.w1 & other.w1),
-            w2: self.w2 ^ (self.w2 & other.w2),
-            w3: self.w3 ^ (self.w3 & other.w3),
+            words: [
+                self.words[0] ^ (self.words[0] & other.words[0]),
+                self.words[1] ^ (self.words[1] & other.words[1]),
+                self.words[2] ^ (self.words[2] & other.words[2]),
+                self.words[3] ^ (self.words[3] & other.words[3]),
+            ],
         }
     }
 
     pub fn count(self) -> u32
         ensures { result ≡ length (members self) }
     {
-        u64::count_ones(self.w0)
-            + u64::count_ones(self.w1)
-            + u64::count_ones(self.w2)
-            + u64::count_ones(self.w3)
+        let mut total = 0;
+        for &word in &self.words {
+            total += word.count_ones();
+        }
+        total
     }
 
     // Writes the members to the front of `out`, ascending. Requires room for all of them.
@@ -125,9 +108,9 @@ impl Set {
         requires { length (members self) ≤ length out.old }
         ensures { out.new ≡ members self ++ drop (length (members self)) out.old }
     {
-        let n1 = list_word(self.w0, 0, 0, out);
-        let n2 = list_word(self.w1, 64, n1, out);
-        let n3 = list_word(self.w2, 128, n2, out);
-        list_word(self.w3, 192, n3, out);
+        let mut n = 0;
+        for (k, &word) in self.words.iter().enumerate() {
+            n = list_word(word, k as u16 * 64, n, out);
+        }
     }
 }

@@ -6,13 +6,11 @@ use Prim.Native.Nat.{ℕ, zero, suc, ◌+◌, ◌*◌, ◌≤◌, ◌<◌}
 use native.Mathlib.Decide.{dec_lt}
 use native.Mathlib.Omega.{arith}
 use lib.ListN.{length}
-use lib.Dec.{ltb, eqb}
+use lib.Dec.{eqb}
 use lib.Ieee.{Float}
 use borrow.Author.Tests.{ltb-false, eqb-true, not-false}
 use Rattle.lists.proofs.Bools.{or_none}
 use Rattle.refusal.specs.declared.Refusal.{Refusal}
-use Rattle.refusal.specs.declared.Answer.{Answer}
-use Rattle.refusal.specs.declared.Answer.TheVariants.{Accepted, Refused}
 use Rattle.refusal.proofs.Laws.{accepted_none, outcome_accepted, refused_keeps}
 use Rattle.node.specs.Sizes.{node_float_count, node_word_count, max_ramp}
 use Rattle.node.specs.declared.Node.{Node}
@@ -20,10 +18,11 @@ use Rattle.node.specs.Nodes.{set_node}
 use Rattle.node.specs.Areas.{Room, id_at, node_at, stored_floats, stored_words, some_bad, InRange}
 use Rattle.node.proofs.Bad.{none_bad_at}
 use Rattle.plan.specs.Limits.{unit_limits}
-use Rattle.plan.specs.Areas.{shorter}
 use Rattle.plan.specs.Check.{id_among, id_twice}
 use Rattle.plan.proofs.Plans.{ids_none}
 use Rattle.setting.specs.Setting.{node_of, setting_tests, setting_answer, setting_floats, setting_words}
+use Rattle.refusal.specs.Tests.{Answer}
+use Rattle.std.specs.Prelude.{Ok, Err}
 
 -- ---- the node of an id, turn by turn
 module _ (words : List ℕ) (id : ℕ) {i j : ℕ} (e : i ≡ suc j) where
@@ -72,15 +71,6 @@ node_only words count id n once known inside e = go (dec_lt m n) (dec_lt n m)
     go (no h) (yes l) = absurd (apart n m l named.0 (e ∙ sym named.1))
     go (no h) (no l) = omega arith
 
--- ---- past the tests 5 and 2
-pub record Early (count floats words : ℕ) : Type 0 where
-  pub over : ltb unit_limits.nodes count ≡ false
-  pub short : (shorter floats count node_float_count || shorter words count node_word_count) ≡ false
-
-pub words_enough : {count floats words : ℕ} → Early count floats words → count * node_word_count ≤ words
-words_enough {count} {floats} {words} e =
-    ltb-false words (count * node_word_count) (or_none (shorter floats count node_float_count) (shorter words count node_word_count) e.short).1
-
 -- ---- what an accepted setting says
 pub record Settable (count id ramp floats : ℕ) (words : List ℕ) : Type 0 where
   pub nodes : count ≤ unit_limits.nodes
@@ -91,10 +81,10 @@ pub record Settable (count id ramp floats : ℕ) (words : List ℕ) : Type 0 whe
   pub ramp_short : ramp ≤ max_ramp
   pub id_known : id_among words count id ≡ true
 
-pub settable : (count id ramp floats : ℕ) (words : List ℕ) → setting_answer count id ramp floats words ≡ Accepted → Settable count id ramp floats words
+pub settable : (count id ramp floats : ℕ) (words : List ℕ) → setting_answer count id ramp floats words ≡ Ok tt → Settable count id ramp floats words
 unfolding setting_answer
 settable count id ramp floats words e =
-    let t = (accepted_none (setting_tests count id ramp floats words) Accepted e).0 in
+    let t = (accepted_none (setting_tests count id ramp floats words) (Ok tt) e).0 in
     let a = or_none _ _ t.1.0 in
     record {
       nodes = ltb-false _ _ t.0;
@@ -123,27 +113,27 @@ module _ (count id : ℕ) (values : List Float) (ramp : ℕ) (floats : List Floa
   node = node_of words count id
 
   -- a refused setting changes nothing
-  pub floats_refused : {r : Refusal} → answered ≡ Refused r → setting_floats count id values ramp floats words ≡ floats
+  pub floats_refused : {r : Refusal} → answered ≡ Err r → setting_floats count id values ramp floats words ≡ floats
   unfolding setting_floats
   floats_refused {r} e = refused_keeps answered (stored_floats floats node (set_node (node_at floats words node) values ramp)) floats r e
 
-  pub words_refused : {r : Refusal} → answered ≡ Refused r → setting_words count id values ramp floats words ≡ words
+  pub words_refused : {r : Refusal} → answered ≡ Err r → setting_words count id values ramp floats words ≡ words
   unfolding setting_words
   words_refused {r} e = refused_keeps answered (stored_words words node (set_node (node_at floats words node) values ramp)) words r e
 
   -- an accepted one sets the node of the id
-  pub floats_accepted : answered ≡ Accepted
+  pub floats_accepted : answered ≡ Ok tt
       → setting_floats count id values ramp floats words ≡ stored_floats floats node (set_node (node_at floats words node) values ramp)
   unfolding setting_floats
   floats_accepted e = outcome_accepted answered (stored_floats floats node (set_node (node_at floats words node) values ramp)) (λ _. floats) e
 
-  pub words_accepted : answered ≡ Accepted
+  pub words_accepted : answered ≡ Ok tt
       → setting_words count id values ramp floats words ≡ stored_words words node (set_node (node_at floats words node) values ramp)
   unfolding setting_words
   words_accepted e = outcome_accepted answered (stored_words words node (set_node (node_at floats words node) values ramp)) (λ _. words) e
 
   -- what the code stores: the node that it found, loaded and set
-  module _ (e : answered ≡ Accepted) {n : ℕ} {old new : Node} (h : n ≡ node) (l : old ≡ node_at floats words n) (s : new ≡ set_node old values ramp) where
+  module _ (e : answered ≡ Ok tt) {n : ℕ} {old new : Node} (h : n ≡ node) (l : old ≡ node_at floats words n) (s : new ≡ set_node old values ramp) where
     pub floats_stored : stored_floats floats n new ≡ setting_floats count id values ramp floats words
     floats_stored = rw (s, l, h) (sym (floats_accepted e))
 

@@ -1,15 +1,13 @@
 -- `set_param`: its tests, 5 (nodes), 2, 14, 8, 10, 9, its answer, and what it writes. Definitions only.
-use Rattle.std.specs.Prelude.{ℕ, zero, suc, not, ◌||◌, cond, List, [], ◌∷◌, ltb, eqb, length, Float}
-use Rattle.refusal.specs.Numbers.{short_area, over_limit, id_taken, unknown_id, long_ramp, bad_node}
-use Rattle.refusal.specs.Tests.{Test, test, first, area_after}
-use Rattle.refusal.specs.declared.Answer.{Answer}
-use Rattle.refusal.specs.declared.Answer.TheVariants.{Accepted}
+use Rattle.std.specs.Prelude.{ℕ, zero, suc, not, ◌||◌, cond, List, [], ◌∷◌, ltb, eqb, length, Float, Ok}
+use Rattle.refusal.specs.Tests.{Test, test, first, area_after, Answer}
 use Rattle.node.specs.Sizes.{node_float_count, node_word_count, ramp_too_long}
 use Rattle.node.specs.Nodes.{set_node}
 use Rattle.node.specs.Areas.{id_at, node_at, stored_floats, stored_words, some_bad}
 use Rattle.plan.specs.Limits.{unit_limits}
 use Rattle.plan.specs.Areas.{shorter}
 use Rattle.plan.specs.Check.{id_among, id_twice}
+use Rattle.refusal.specs.declared.Reason.TheVariants.{BadNode, IdTaken, LongRamp, OverLimit, ShortArea, UnknownId}
 
 -- the node of an id among the first n, which is the only one where no id is held twice
 unfoldable pub node_of : List ℕ → ℕ → ℕ → ℕ
@@ -19,16 +17,16 @@ node_of words (suc n) id = cond (eqb (id_at words n) id) n (node_of words n id)
 -- `count` nodes in the lent areas
 abbrev pub setting_tests : ℕ → ℕ → ℕ → ℕ → List ℕ → List Test
 setting_tests count id ramp floats words =
-    test over_limit (ltb unit_limits.nodes count)
-    ∷ test short_area (shorter floats count node_float_count || shorter (length words) count node_word_count)
-    ∷ test bad_node (some_bad words count)
-    ∷ test id_taken (id_twice words count)
-    ∷ test long_ramp (ramp_too_long ramp)
-    ∷ test unknown_id (not (id_among words count id))
+    test OverLimit (ltb unit_limits.nodes count)
+    ∷ test ShortArea (shorter floats count node_float_count || shorter (length words) count node_word_count)
+    ∷ test BadNode (some_bad words count)
+    ∷ test IdTaken (id_twice words count)
+    ∷ test LongRamp (ramp_too_long ramp)
+    ∷ test UnknownId (not (id_among words count id))
     ∷ []
 
 unfoldable pub setting_answer : ℕ → ℕ → ℕ → ℕ → List ℕ → Answer
-setting_answer count id ramp floats words = first (setting_tests count id ramp floats words) Accepted
+setting_answer count id ramp floats words = first (setting_tests count id ramp floats words) (Ok tt)
 
 -- the areas after the call: the node of the id is set
 unfoldable pub setting_floats : ℕ → ℕ → List Float → ℕ → List Float → List ℕ → List Float

@@ -2,40 +2,40 @@
 // the crates above, and has a `requires`.
 #![tactic(auto)]
 
-ghost use Rattle.std.specs.Prelude.{◌≡◌, ◌*◌, ◌≤◌, length};
-ghost use Rattle.refusal.specs.declared.Answer.TheVariants.{Accepted};
+ghost use Rattle.std.specs.Prelude.{◌≡◌, ◌*◌, ◌≤◌, length, Ok};
 ghost use Rattle.node.specs.Sizes.{node_word_count};
 ghost use Rattle.setting.specs.Setting.{node_of, setting_answer, setting_floats, setting_words};
 
 use node::Node;
 use plan::Plan;
-use refusal::{Answer, Refusal};
+use refusal::{Answer, Reason};
 
 // The tests, of `count` nodes in an area of `floats` floats, in their order. It writes nothing.
+#[tactic(auto, unfolding(crate::specs::Setting::setting_answer))]
 fn setting_answer(count: usize, id: u32, ramp: u32, floats: usize, words: &[u32]) -> Answer
     ensures { result ≡ setting_answer count id ramp floats words.now }
 {
     if count > Plan::MAX_NODES {
-        return Answer::refused(Refusal::OVER_LIMIT);
+        return Err(Reason::OverLimit.into());
     }
     if plan_areas::shorter(floats, count, Node::FLOATS)
         | plan_areas::shorter(words.len(), count, Node::WORDS)
     {
-        return Answer::refused(Refusal::SHORT_AREA);
+        return Err(Reason::ShortArea.into());
     }
     if node_areas::any_bad(words, count) {
-        return Answer::refused(Refusal::BAD_NODE);
+        return Err(Reason::BadNode.into());
     }
     if plan_areas::id_twice(words, count) {
-        return Answer::refused(Refusal::ID_TAKEN);
+        return Err(Reason::IdTaken.into());
     }
     if ramp > Node::MAX_RAMP {
-        return Answer::refused(Refusal::LONG_RAMP);
+        return Err(Reason::LongRamp.into());
     }
     if !plan_areas::id_among(words, count, id) {
-        return Answer::refused(Refusal::UNKNOWN_ID);
+        return Err(Reason::UnknownId.into());
     }
-    Answer::Accepted
+    Ok(())
 }
 
 // The node of an id among the first n. Requires the words of all n.
@@ -43,9 +43,7 @@ fn node_of(words: &[u32], n: usize, id: u32) -> usize
     requires { n * node_word_count ≤ length words.now }
     ensures { result ≡ node_of words.now n id }
 {
-    let mut i = n;
-    while i > 0 {
-        i -= 1;
+    for i in (0..n).rev() {
         if node_areas::id_of(words, i) == id {
             return i;
         }
@@ -63,7 +61,7 @@ pub fn set_node(
     node_floats: &mut [f32],
     node_words: &mut [u32],
 )
-    requires { setting_answer nodes id ramp (length node_floats.old) node_words.old ≡ Accepted }
+    requires { setting_answer nodes id ramp (length node_floats.old) node_words.old ≡ Ok tt }
     ensures floats { node_floats.new ≡ setting_floats nodes id values.now ramp node_floats.old node_words.old }
     ensures words { node_words.new ≡ setting_words nodes id values.now ramp node_floats.old node_words.old }
 {
@@ -85,11 +83,7 @@ pub fn set_param(
     ensures floats { node_floats.new ≡ setting_floats nodes id values.now ramp node_floats.old node_words.old }
     ensures words { node_words.new ≡ setting_words nodes id values.now ramp node_floats.old node_words.old }
 {
-    match setting_answer(nodes, id, ramp, node_floats.len(), &node_words[..]) {
-        Answer::Refused(r) => Answer::Refused(r),
-        Answer::Accepted => {
-            set_node(nodes, id, values, ramp, node_floats, node_words);
-            Answer::Accepted
-        }
-    }
+    setting_answer(nodes, id, ramp, node_floats.len(), &node_words[..])?;
+    set_node(nodes, id, values, ramp, node_floats, node_words);
+    Ok(())
 }

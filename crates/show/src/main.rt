@@ -33,13 +33,11 @@ fn show(
     buffers: &mut [f32],
 ) -> Answer {
     overview::counts(plan);
-    if let Answer::Refused(r) = sheet::clean(plan, indices, &words[..], steps) {
-        return Answer::Refused(r);
-    }
+    sheet::clean(plan, indices, &words[..], steps)?;
     overview::run();
     let nothing = signals::digest::empty();
     let mut digests = [nothing; layout::SLOTS];
-    let answer = runs::blocks(
+    runs::blocks(
         plan,
         indices,
         coefficients,
@@ -48,19 +46,14 @@ fn show(
         steps,
         buffers,
         &mut digests,
-    );
-    if let Answer::Refused(r) = answer {
-        return Answer::Refused(r);
-    }
-    if let Answer::Refused(r) = second::adopts(plan.nodes, &floats[..], &words[..]) {
-        return Answer::Refused(r);
-    }
+    )?;
+    second::adopts(plan.nodes, &floats[..], &words[..])?;
     sheet::rows(&digests, plan, indices, &words[..], steps)
 }
 
 // Nothing for a show that went to its end.
 fn stopped(answer: Answer) {
-    if let Answer::Refused(r) = answer {
+    if let Err(r) = answer {
         text::put(b"\nThe show has stopped: ");
         refused::why(r);
         text::put(b"\n");

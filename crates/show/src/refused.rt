@@ -4,8 +4,7 @@ ghost use Rattle.signals.specs.Digest.{start, of_words, of_samples};
 
 use crate::{layout, runs, settings};
 use plan::Plan;
-use refusal::{Answer, Refusal};
-use run::Ran;
+use refusal::{Reason, Refusal};
 use signals::digest;
 
 // The sample that the block starts at.
@@ -25,12 +24,12 @@ fn of_areas(floats: &[f32], words: &[u32], buffers: &[f32], output: &[f32]) -> u
     digest::of_samples(digest::of_samples(of_nodes(floats, words), buffers), output)
 }
 
-// The reason of the numbers that the show is refused with; document 01 has the others.
-fn reason(number: u32) {
-    match number {
-        Refusal::UNKNOWN_ID => text::put(b", id unknown"),
-        Refusal::LONG_RAMP => text::put(b", ramp too long"),
-        Refusal::SHORT_OUTPUT => text::put(b", output area short"),
+// A reason that the show is refused for, in words; document 01 has the others.
+fn reason(r: Reason) {
+    match r {
+        Reason::UnknownId => text::put(b", id unknown"),
+        Reason::LongRamp => text::put(b", ramp too long"),
+        Reason::ShortOutput => text::put(b", output area short"),
         _ => {}
     }
 }
@@ -38,7 +37,7 @@ fn reason(number: u32) {
 // The number of a refusal and its reason, and the step where it is at one.
 pub fn why(r: Refusal) {
     text::refused(r);
-    reason(r.number);
+    reason(r.reason);
     text::place(r);
 }
 
@@ -63,7 +62,7 @@ fn setting(
     let before = of_nodes(&floats[..], &words[..]);
     let answer = setting::set_param(nodes, id, &[0.5], ramp, floats, words);
     let after = of_nodes(&floats[..], &words[..]);
-    if let Answer::Refused(r) = answer {
+    if let Err(r) = answer {
         line(from, what, r, before, after);
     }
 }
@@ -93,7 +92,7 @@ fn short_run(
         &mut output,
     );
     let after = of_areas(&floats[..], &words[..], &buffers[..], &output);
-    if let Ran::Refused(r) = answer {
+    if let Err(r) = answer {
         line(
             from,
             b"a run with an output area of 5,631 samples",

@@ -1,11 +1,10 @@
 // The run: block after block, with the settings between, and the digest of each slot's samples.
-ghost use Rattle.std.specs.Prelude.{◌≡◌, ◌+◌, ◌<◌, length};
+ghost use Rattle.std.specs.Prelude.{◌+◌, ◌<◌};
 
 use crate::{layout, refused, settings, stand_in};
 use format::Format;
 use plan::Plan;
-use refusal::Answer;
-use run::Ran;
+use refusal::{Answer, Refusal};
 use signals::{BLOCK, digest, inputs};
 
 // The channels of all slots.
@@ -27,7 +26,7 @@ pub fn ran(
     steps: &[u32],
     buffers: &mut [f32],
     output: &mut [f32],
-) -> Ran
+) -> Result<usize, Refusal>
     requires { from + 256 < 4294967296 }
 {
     let mut directory = [0u32; inputs::DIRECTORY];
@@ -51,10 +50,8 @@ pub fn ran(
 }
 
 // The digest of each slot, with a block more. The blocks of the plan's Outputs stand one after the other in the output area, in step order and channel
-// by channel. Requires a digest for each slot.
-fn digest_block(output: &[f32], digests: &mut [u32])
-    requires { length digests.old ≡ 11 }
-{
+// by channel.
+fn digest_block(output: &[f32], digests: &mut [u32; layout::SLOTS]) {
     let mut at = 0;
     for i in 0..layout::SLOTS {
         let slot = layout::output_slot(i);
@@ -67,7 +64,7 @@ fn digest_block(output: &[f32], digests: &mut [u32])
     }
 }
 
-// A block, and what it adds to the digests. Requires samples that a u32 counts, and a digest for each slot.
+// A block, and what it adds to the digests. Requires samples that a u32 counts.
 fn played(
     from: usize,
     plan: Plan,
@@ -77,12 +74,12 @@ fn played(
     words: &mut [u32],
     steps: &[u32],
     buffers: &mut [f32],
-    digests: &mut [u32],
+    digests: &mut [u32; layout::SLOTS],
 ) -> Answer
-    requires { (from + 256 < 4294967296) × (length digests.old ≡ 11) }
+    requires { from + 256 < 4294967296 }
 {
     let mut output = [0.0f32; OUTPUT];
-    match ran(
+    ran(
         from as u32,
         plan,
         indices,
@@ -92,13 +89,9 @@ fn played(
         steps,
         buffers,
         &mut output,
-    ) {
-        Ran::Refused(r) => Answer::Refused(r),
-        Ran::Wrote(_) => {
-            digest_block(&output, digests);
-            Answer::Accepted
-        }
-    }
+    )?;
+    digest_block(&output, digests);
+    Ok(())
 }
 
 // What happens before a block, and the block. Requires as `played`.
@@ -111,13 +104,11 @@ fn block(
     words: &mut [u32],
     steps: &[u32],
     buffers: &mut [f32],
-    digests: &mut [u32],
+    digests: &mut [u32; layout::SLOTS],
 ) -> Answer
-    requires { (from + 256 < 4294967296) × (length digests.old ≡ 11) }
+    requires { from + 256 < 4294967296 }
 {
-    if let Answer::Refused(r) = settings::before(from, plan.nodes, floats, words) {
-        return Answer::Refused(r);
-    }
+    settings::before(from, plan.nodes, floats, words)?;
     refused::before(
         from,
         plan,
@@ -141,7 +132,7 @@ fn block(
     )
 }
 
-// All blocks, or those up to a call that is refused and should not be. Requires a digest for each slot.
+// All blocks, or those up to a call that is refused and should not be.
 pub fn blocks(
     plan: Plan,
     indices: &[u32],
@@ -150,12 +141,10 @@ pub fn blocks(
     words: &mut [u32],
     steps: &[u32],
     buffers: &mut [f32],
-    digests: &mut [u32],
-) -> Answer
-    requires { length digests.old ≡ 11 }
-{
+    digests: &mut [u32; layout::SLOTS],
+) -> Answer {
     for i in 0..BLOCKS {
-        let answer = block(
+        block(
             i * BLOCK,
             plan,
             indices,
@@ -165,10 +154,7 @@ pub fn blocks(
             steps,
             buffers,
             digests,
-        );
-        if let Answer::Refused(r) = answer {
-            return Answer::Refused(r);
-        }
+        )?;
     }
-    Answer::Accepted
+    Ok(())
 }

@@ -1,6 +1,5 @@
 // The layout a second time, in areas of its own, and what it adopts of the plan that has run.
 use crate::{build, layout, settings};
-use desk::draft;
 use desk::draft::Draft;
 use node::Node;
 use refusal::Answer;
@@ -31,16 +30,11 @@ fn adopted(
     old_words: &[u32],
 ) -> Answer {
     let built = desk_nodes::of_safe(nodes, &floats[..], &words[..]);
-    let answer = desk_nodes::adopt_all(
-        nodes, floats, words, old_nodes, old_floats, old_words, RAMP,
-    );
-    if let Answer::Refused(r) = answer {
-        return Answer::Refused(r);
-    }
+    desk_nodes::adopt_all(nodes, floats, words, old_nodes, old_floats, old_words, RAMP)?;
     let alike = desk_nodes::start_alike(nodes, &floats[..], old_floats);
     let left = desk_nodes::of_safe(nodes, &floats[..], &words[..]);
     told(nodes, alike, left == built);
-    Answer::Accepted
+    Ok(())
 }
 
 // The nodes of a second layout. It is not run, and its other areas are not kept.
@@ -63,10 +57,7 @@ pub fn adopts(old_nodes: usize, old_floats: &[f32], old_words: &[u32]) -> Answer
     let mut floats = [0.0f32; layout::NODES * Node::FLOATS];
     let mut words = [0u32; layout::NODES * Node::WORDS];
     let draft = laid_out(&mut floats, &mut words);
-    if draft::refused(draft) {
-        let answer = draft.answer;
-        return answer;
-    }
+    draft.answer?;
     let nodes = draft.plan.nodes;
     adopted(
         nodes,

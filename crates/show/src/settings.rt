@@ -50,18 +50,14 @@ fn told(from: usize) {
 
 fn pan(b: f64, ramp: u32, nodes: usize, floats: &mut [f32], words: &mut [u32]) -> Answer {
     let mut values = [0.0f32; 2];
-    match gains::pan(b, &mut values) {
-        Answer::Refused(r) => Answer::Refused(r),
-        Answer::Accepted => setting::set_param(nodes, layout::PAN, &values, ramp, floats, words),
-    }
+    gains::pan(b, &mut values)?;
+    setting::set_param(nodes, layout::PAN, &values, ramp, floats, words)
 }
 
 fn width(w: f64, ramp: u32, nodes: usize, floats: &mut [f32], words: &mut [u32]) -> Answer {
     let mut values = [0.0f32; 4];
-    match gains::width(w, &mut values) {
-        Answer::Refused(r) => Answer::Refused(r),
-        Answer::Accepted => setting::set_param(nodes, layout::WIDTH, &values, ramp, floats, words),
-    }
+    gains::width(w, &mut values)?;
+    setting::set_param(nodes, layout::WIDTH, &values, ramp, floats, words)
 }
 
 // The level of a strip or of a send. A setting takes no more of the values than its node has.
@@ -79,10 +75,8 @@ fn level(
 
 // The insert's bypass, as an operator sets it: the dry signal to 1, the return to 0.
 fn bypass(ramp: u32, nodes: usize, floats: &mut [f32], words: &mut [u32]) -> Answer {
-    match level(layout::DRY, 1.0, ramp, nodes, floats, words) {
-        Answer::Refused(r) => Answer::Refused(r),
-        Answer::Accepted => level(layout::WET, 0.0, ramp, nodes, floats, words),
-    }
+    level(layout::DRY, 1.0, ramp, nodes, floats, words)?;
+    level(layout::WET, 0.0, ramp, nodes, floats, words)
 }
 
 // The setting before the block that starts at a sample, if it has one.
@@ -103,6 +97,6 @@ pub fn before(from: usize, nodes: usize, floats: &mut [f32], words: &mut [u32]) 
             floats,
             words,
         ),
-        _ => Answer::Accepted,
+        _ => Ok(()),
     }
 }

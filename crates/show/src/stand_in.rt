@@ -1,16 +1,12 @@
 // A stand-in for the narrator's microphone. Its samples are lent in every block; from one block on its entry stands at the directory's end.
-ghost use Rattle.std.specs.Prelude.{◌≡◌, length};
-
 use crate::settings;
 use signals::{BLOCK, digest, inputs};
 
 // The sample that its first block starts at.
 const AT: u32 = 168_192;
 
-// What the block from a sample on is lent of a directory whose last entry is the stand-in's. Requires the directory of all channels.
-pub fn directory_at(from: u32, directory: &[u32]) -> &[u32]
-    requires { length directory.now ≡ 64 }
-{
+// What the block from a sample on is lent of a directory whose last entry is the stand-in's.
+pub fn directory_at(from: u32, directory: &[u32; inputs::DIRECTORY]) -> &[u32] {
     if from < AT {
         return &directory[0..inputs::DIRECTORY - 4];
     }
@@ -27,10 +23,8 @@ fn told(from: u32, heard: bool) {
 }
 
 // Its line behind its first block, and one behind each later block in which it is not heard. It is heard where the narrator's buffer, the first
-// of the plan, has its samples, the last of those lent. Requires the samples of all channels.
-pub fn line(from: u32, samples: &[f32], buffers: &[f32])
-    requires { length samples.now ≡ 4096 }
-{
+// of the plan, has its samples, the last of those lent.
+pub fn line(from: u32, samples: &[f32; inputs::SAMPLES], buffers: &[f32]) {
     if from < AT {
         return;
     }

@@ -1,12 +1,10 @@
 // Steps with buffers of their own, which are the draft's span after them.
 use crate::layout;
-use builder::NumberAnswer;
 use builder_calls::PlanBuilder;
 use desk::draft;
 use desk::draft::Draft;
 use format::Format;
 use plan::{Span, Step};
-use refusal::Answer;
 
 // One channel of an input into the buffer of that channel.
 fn patch(
@@ -20,9 +18,10 @@ fn patch(
     if draft::refused(draft) {
         return draft;
     }
-    match PlanBuilder::buffer(draft.plan, dst, channel as usize, indices) {
-        NumberAnswer::Refused(r) => draft::asked(draft, Answer::Refused(r)),
-        NumberAnswer::Number(b) => draft::step(draft, &[Step::PATCH_MAP, input, channel, b], steps),
+    let builder = PlanBuilder { plan: draft.plan };
+    match builder.buffer(dst, channel as usize, indices) {
+        Err(r) => draft::asked(draft, Err(r)),
+        Ok(b) => draft::step(draft, &[Step::PATCH_MAP, input, channel, b], steps),
     }
 }
 

@@ -1,27 +1,12 @@
--- What the loops of the digest and of the signals go by. Assumes nothing.
-use Prim.Native.Nat.{ℕ, zero, suc, ◌+◌, ◌*◌, ◌^◌, ◌<◌, ◌≤◌}
-use mathlib.Core.Path.{◌≡◌, refl, sym, ap, ◌∙◌, subst⁻¹}
-use mathlib.Core.List.{List, foldl}
-use native.Mathlib.Numerals.{add-one}
-use native.Mathlib.Omega.{arith}
+-- What the loops of the signals go by. Assumes nothing.
+use Prim.Native.Nat.{ℕ, zero, suc, ◌+◌, ◌*◌, ◌^◌, ◌<◌}
+use mathlib.Core.Path.{◌≡◌, refl, ◌∙◌, subst⁻¹}
+use mathlib.Core.List.{List}
 use native.Mathlib.Nat.{mul-le-mul_left, mul-lt-mul_of_pos_right, lt_of_le_of_lt, le_of_lt}
-use lib.ListN.{length, get_or, drop, length-set, drop_of_length-le}
+use lib.ListN.{length, get_or, length-set}
 use lib.Pow.{pow_pos, pow-add}
-use lib.Seq.{drop-cons}
 use lib.Ieee.{Float}
 use Rattle.signals.specs.Signals.{pitches, filled, played}
-
--- ---- a digest that goes over a list from its front: before entry i, what is left of the list leads to the digest of all of it
-
-module _ {A : Type 0} (more : ℕ → A → ℕ) (start : ℕ) (xs : List A) where
-  abbrev pub Over : ℕ → ℕ → Type 0
-  Over digest i = (i ≤ length xs) × (foldl more digest (drop i xs) ≡ foldl more start xs)
-
-  pub over_more : (digest i : ℕ) (d : A) {next : ℕ} → i < length xs → Over digest i → next ≡ more digest (get_or xs i d) → Over next (i + 1)
-  over_more digest i d h o e = (omega arith, rw (e, add-one) (sym (ap (foldl more digest) (drop-cons xs i d h)) ∙ o.1))
-
-  pub over_all : (digest i : ℕ) → length xs ≤ i → Over digest i → digest ≡ foldl more start xs
-  over_all digest i h o = sym (ap (foldl more digest) (drop_of_length-le xs h)) ∙ o.1
 
 -- ---- the product of two numbers of k bits
 

@@ -1,2 +1,2 @@
--- laws of the digest and of the signals
+-- laws of the signals
 pub mod Laws

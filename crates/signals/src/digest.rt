@@ -47,8 +47,8 @@ pub fn of_words(digest: u32, list: &[u32]) -> u32
     ensures { result ≡ of_words digest list.now }
 {
     let mut digest = digest;
-    for i in 0..list.len() {
-        digest = with_word(digest, list[i]);
+    for &word in list {
+        digest = with_word(digest, word);
     }
     digest
 }
@@ -57,8 +57,8 @@ pub fn of_samples(digest: u32, list: &[f32]) -> u32
     ensures { result ≡ of_samples digest list.now }
 {
     let mut digest = digest;
-    for i in 0..list.len() {
-        digest = with_sample(digest, list[i]);
+    for &x in list {
+        digest = with_sample(digest, x);
     }
     digest
 }

@@ -56,25 +56,22 @@ fn input(n: u16) {
 
 // The first n of a list of inputs, or all that it has.
 pub fn inputs(list: &[u16], n: u32, between: &[u8]) {
-    let n = n as usize;
-    let mut i = 0;
-    while i < n && i < list.len() {
+    for (i, &number) in list.iter().take(n as usize).enumerate() {
         separated(i, between);
-        input(list[i]);
-        i += 1;
+        input(number);
     }
 }
 
 // The number of a refusal.
 pub fn refused(r: Refusal) {
     put(b"refused ");
-    whole(r.number as u64);
+    whole(r.reason.number() as u64);
 }
 
 // The step that a refusal is at, where it is at one.
 pub fn place(r: Refusal) {
-    if r.place > 0 {
+    if let Some(step) = r.place {
         put(b", at step ");
-        whole(r.place as u64);
+        whole(step as u64);
     }
 }

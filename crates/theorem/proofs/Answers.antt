@@ -9,11 +9,8 @@ use native.Mathlib.Omega.{arith}
 use lib.Dec.{ltb, leb}
 use lib.ListN.{length, get_or, take, length-take}
 use lib.Seq.{sets}
-use Rattle.refusal.specs.Numbers.{short_area, no_slot}
-use Rattle.refusal.specs.Tests.{Test, test, first, outcome}
+use Rattle.refusal.specs.Tests.{Test, test, first, outcome, Answer}
 use Rattle.refusal.specs.declared.Refusal.{Refusal}
-use Rattle.refusal.specs.declared.Answer.{Answer}
-use Rattle.refusal.specs.declared.Answer.TheVariants.{Accepted, Refused}
 use Rattle.refusal.proofs.Laws.{accepted_none, first_append, none_rest, refused_rest}
 use Rattle.node.specs.declared.Node.{Node}
 use Rattle.node.specs.Sizes.{node_word_count}
@@ -23,8 +20,6 @@ use Rattle.plan.specs.declared.Plan.{Plan}
 use Rattle.plan.specs.PlanRecord.{plan_with, with_block}
 use Rattle.plan.specs.declared.Step.{Step}
 use Rattle.plan.specs.declared.Step.TheVariants.{Patch, Gain, Matrix, Clear, Send, Output}
-use Rattle.plan.specs.declared.Read.{Read}
-use Rattle.plan.specs.declared.Read.TheVariants.{Found, Bad}
 use Rattle.plan.specs.Limits.{bad_block}
 use Rattle.plan.specs.Areas.{short_lists}
 use Rattle.plan.specs.Words.{read_at}
@@ -37,10 +32,10 @@ use Rattle.builder.specs.Built.{BuilderState, Draft, Drafted}
 use Rattle.trace.specs.Sources.{source_list, slot_count}
 use Rattle.trace.specs.Clean.{clean}
 use Rattle.trace.specs.Calls.{traced_steps, trace_answer, sources_answer, sources_area, clean_answer}
-use Rattle.trace.specs.declared.Sources.TheVariants as sources
-use Rattle.trace.specs.declared.CleanAnswer.TheVariants as answers
 use Rattle.theorem.proofs.Nodes.{nobody}
 use Rattle.theorem.proofs.Drafts.{same_nodes, same_traced}
+use Rattle.refusal.specs.declared.Reason.TheVariants.{NoSlot, ShortArea}
+use Rattle.std.specs.Prelude.{true, Ok, Err, Some, None, Option}
 
 -- ---- a plan with another block
 
@@ -59,11 +54,11 @@ module _ (p : Plan) (n : ℕ) where
   steps_block indices w zero at place = refl
   steps_block indices w (suc k) at place = go (read_at w at) (λ next. steps_block indices w k next (place + 1))
     where
-      go : (r : Read) → ((next : ℕ) → steps_tests (with_block p n) indices w k next (place + 1) ≡ steps_tests p indices w k next (place + 1))
+      go : (r : Option (Step × ℕ)) → ((next : ℕ) → steps_tests (with_block p n) indices w k next (place + 1) ≡ steps_tests p indices w k next (place + 1))
           → step_tests (with_block p n) indices place r (λ next. steps_tests (with_block p n) indices w k next (place + 1))
           ≡ step_tests p indices place r (λ next. steps_tests p indices w k next (place + 1))
-      go (Found s next) ih = rw (outside_block s, ih next)
-      go Bad ih = refl
+      go (Some (s, next)) ih = rw (outside_block s, ih next)
+      go None ih = refl
 
   tests_block : bad_block n ≡ bad_block p.block → (short : Bool) (indices words steps : List ℕ)
       → plan_tests (with_block p n) short indices words steps ≡ plan_tests p short indices words steps
@@ -72,7 +67,7 @@ module _ (p : Plan) (n : ℕ) where
   checked_block : bad_block n ≡ bad_block p.block → (short : Bool) (indices words steps : List ℕ)
       → checked (with_block p n) short indices words steps ≡ checked p short indices words steps
   unfolding checked
-  checked_block e short indices words steps = ap (λ (ts : List Test). first ts Accepted) (tests_block e short indices words steps)
+  checked_block e short indices words steps = ap (λ (ts : List Test). first ts (Ok tt)) (tests_block e short indices words steps)
 
 -- ---- a draft in its place
 
@@ -105,13 +100,13 @@ traced s = traced_steps s.plan s.indices s.steps
 
 -- 15 and 2
 abbrev slot_tests : ℕ → ℕ → List Resolved → List Test
-slot_tests slot n xs = test no_slot (leb (slot_count xs) slot) ∷ test short_area (ltb n (length (source_list slot xs))) ∷ []
+slot_tests slot n xs = test NoSlot (leb (slot_count xs) slot) ∷ test ShortArea (ltb n (length (source_list slot xs))) ∷ []
 
 -- the trace's tests come after the plan's
 in_turn : (s : BuilderState) (slot n : ℕ)
-    → trace_answer s.plan slot s.indices s.words s.steps n ≡ outcome (checked_lists s) (first (slot_tests slot n (traced s)) Accepted) Refused
+    → trace_answer s.plan slot s.indices s.words s.steps n ≡ outcome (checked_lists s) (first (slot_tests slot n (traced s)) (Ok tt)) Err
 unfolding trace_answer checked
-in_turn s slot n = first_append tests own Accepted ∙ go (first tests Accepted) refl
+in_turn s slot n = first_append tests own (Ok tt) ∙ go (first tests (Ok tt)) refl
   where
     tests : List Test
     tests = plan_tests s.plan (short_lists s.plan s.indices s.words s.steps) s.indices s.words s.steps
@@ -119,15 +114,15 @@ in_turn s slot n = first_append tests own Accepted ∙ go (first tests Accepted)
     own : List Test
     own = slot_tests slot n (traced s)
 
-    go : (t : Answer) → first tests Accepted ≡ t → first tests (first own Accepted) ≡ outcome (first tests Accepted) (first own Accepted) Refused
-    go Accepted e = none_rest tests (first own Accepted) (accepted_none tests Accepted e).0 ∙ rw e refl
-    go (Refused r) e = refused_rest tests (first own Accepted) r e ∙ rw e refl
+    go : (t : Answer) → first tests (Ok tt) ≡ t → first tests (first own (Ok tt)) ≡ outcome (first tests (Ok tt)) (first own (Ok tt)) Err
+    go (Ok _) e = none_rest tests (first own (Ok tt)) (accepted_none tests (Ok tt) e).0 ∙ rw e refl
+    go (Err r) e = refused_rest tests (first own (Ok tt)) r e ∙ rw e refl
 
 -- so what is handed back by the trace's answer is handed back by the check's
 turned : {A : Type 0} (t : Answer) (own : Answer) (done : A) (refused : Refusal → A)
-    → outcome (outcome t own Refused) done refused ≡ outcome t (outcome own done refused) refused
-turned Accepted own done refused = refl
-turned (Refused r) own done refused = refl
+    → outcome (outcome t own Err) done refused ≡ outcome t (outcome own done refused) refused
+turned (Ok _) own done refused = refl
+turned (Err r) own done refused = refl
 
 -- ---- two states of one draft
 
@@ -186,29 +181,29 @@ module _ (s₁ s₂ : BuilderState) (d : Draft) (t₁ : LaidOut s₁ d) (t₂ : 
   by_steps {A} made refused = go (checked_lists s₁) refl
     where
       go : (t : Answer) → checked_lists s₁ ≡ t → outcome (checked_lists s₂) (made (traced s₂)) refused ≡ outcome (checked_lists s₁) (made (traced s₁)) refused
-      go Accepted q =
+      go (Ok _) q =
           let inside = (accepted_sound p₁ (short_lists p₁ s₁.indices s₁.words s₁.steps) s₁.indices s₁.words s₁.steps q).inside in
           ap (λ (t : Answer). outcome t (made (traced s₂)) refused) check_same
           ∙ ap (λ (xs : List Resolved). outcome (checked_lists s₁) (made xs) refused) (same_traced s₁ s₂ d h₁ h₂ inside)
-      go (Refused r) q = rw (check_same, q) refl
+      go (Err r) q = rw (check_same, q) refl
 
   by_trace : {A : Type 0} (slot n : ℕ) (made : List Resolved → A) (refused : Refusal → A)
       → outcome (trace_answer s₂.plan slot s₂.indices s₂.words s₂.steps n) (made (traced s₂)) refused
       ≡ outcome (trace_answer s₁.plan slot s₁.indices s₁.words s₁.steps n) (made (traced s₁)) refused
-  by_trace {A} slot n made refused = each s₂ ∙ by_steps (λ xs. outcome (first (slot_tests slot n xs) Accepted) (made xs) refused) refused ∙ sym (each s₁)
+  by_trace {A} slot n made refused = each s₂ ∙ by_steps (λ xs. outcome (first (slot_tests slot n xs) (Ok tt)) (made xs) refused) refused ∙ sym (each s₁)
     where
       each : (s : BuilderState) → outcome (trace_answer s.plan slot s.indices s.words s.steps n) (made (traced s)) refused
-          ≡ outcome (checked_lists s) (outcome (first (slot_tests slot n (traced s)) Accepted) (made (traced s)) refused) refused
+          ≡ outcome (checked_lists s) (outcome (first (slot_tests slot n (traced s)) (Ok tt)) (made (traced s)) refused) refused
       each s =
           ap (λ (t : Answer). outcome t (made (traced s)) refused) (in_turn s slot n)
-          ∙ turned (checked_lists s) (first (slot_tests slot n (traced s)) Accepted) (made (traced s)) refused
+          ∙ turned (checked_lists s) (first (slot_tests slot n (traced s)) (Ok tt)) (made (traced s)) refused
 
   pub same_answers : SameAnswers s₁ s₂
   unfolding clean_answer sources_answer sources_area
   same_answers =
       record {
         same_check = check_same;
-        same_clean = by_steps (λ xs. cond (clean xs) answers.Clean answers.NotClean) answers.Refused;
-        same_sources = λ slot n. by_trace slot n (λ xs. sources.Listed (length (source_list slot xs))) sources.Refused;
+        same_clean = by_steps (λ xs. cond (clean xs) (Ok true) (Ok false)) Err;
+        same_sources = λ slot n. by_trace slot n (λ xs. Ok (length (source_list slot xs))) Err;
         same_list = λ slot area. by_trace slot (length area) (λ xs. sets area 0 (source_list slot xs)) (λ _. area);
       }

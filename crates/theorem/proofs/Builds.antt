@@ -5,7 +5,6 @@ use mathlib.Core.List.{List, [], ◌∷◌, ◌++◌}
 use Prim.Native.Nat.{ℕ, zero, suc, ◌*◌, ◌≤◌}
 use native.Mathlib.Omega.{arith}
 use lib.ListN.{length}
-use Rattle.refusal.specs.declared.Answer.TheVariants.{Accepted}
 use Rattle.refusal.proofs.Laws.{accepted_none}
 use Rattle.node.specs.declared.Node.{Node}
 use Rattle.node.specs.Sizes.{node_word_count}
@@ -26,6 +25,7 @@ use Rattle.insert.proofs.Laid.{layout_keeps, laid_read_back}
 use Rattle.theorem.specs.Builds.{Build, unit_calls, begun, after_calls, accepted_calls, NoRampBuilt}
 use Rattle.theorem.proofs.Nodes.{AtRest}
 use Rattle.theorem.proofs.Answers.{LaidOut, SameAnswers, same_answers}
+use Rattle.std.specs.Prelude.{Ok}
 
 pub block_kept : (b : Build) → (after_calls b).plan.block ≡ b.block
 block_kept b = layout_keeps (λ (s : BuilderState). s.plan.block ≡ b.block) (λ l s c e p. (accepted_kept l s c e).block ∙ p) (unit_calls b.calls) (begun b) refl
@@ -33,7 +33,7 @@ block_kept b = layout_keeps (λ (s : BuilderState). s.plan.block ≡ b.block) (�
 abbrev NodeRoom : BuilderState → Type 0
 NodeRoom s = s.plan.nodes * node_word_count ≤ length s.words
 
-room_kept : (l : Limits) (s : BuilderState) (c : BuilderCall) → answer l s c ≡ Accepted → NodeRoom s → NodeRoom (after l s c)
+room_kept : (l : Limits) (s : BuilderState) (c : BuilderCall) → answer l s c ≡ Ok tt → NodeRoom s → NodeRoom (after l s c)
 room_kept l s (buffers n) e r = rw (plan_accepted s.plan (buffers_growth n) e) r
 room_kept l s (coefficients xs) e r = rw (plan_accepted s.plan (coefficients_growth (length xs)) e) r
 room_kept l s (node id xs ramp safe) e r =
@@ -48,13 +48,13 @@ draft b = layout_drafted no_draft (accepted_calls b)
 pub is_drafted : (b : Build) → Drafted (after_calls b) (draft b)
 is_drafted b = laid_read_back b.block (begun b) refl (unit_calls b.calls)
 
-placed : (b : Build) → new_answer b.block ≡ Accepted → LaidOut (after_calls b) (draft b)
+placed : (b : Build) → new_answer b.block ≡ Ok tt → LaidOut (after_calls b) (draft b)
 unfolding new_answer
 placed b e =
     record {
       drafted = is_drafted b;
       nodes = layout_keeps NodeRoom room_kept (unit_calls b.calls) (begun b) (omega arith);
-      block = rw (block_kept b) (accepted_none (new_tests b.block) Accepted e).0.0;
+      block = rw (block_kept b) (accepted_none (new_tests b.block) (Ok tt) e).0.0;
     }
 
 -- ---- its nodes: at rest where no ramp was given
@@ -92,7 +92,7 @@ module _ (b₁ b₂ : Build) (e : accepted_calls b₁ ≡ accepted_calls b₂) w
   pub drafted_too : Drafted (after_calls b₂) (draft b₁)
   drafted_too = subst (λ (cs : List LayoutCall). Drafted (after_calls b₂) (layout_drafted no_draft cs)) (sym e) (is_drafted b₂)
 
-  pub builds_answer : new_answer b₁.block ≡ Accepted → new_answer b₂.block ≡ Accepted → SameAnswers (after_calls b₁) (after_calls b₂)
+  pub builds_answer : new_answer b₁.block ≡ Ok tt → new_answer b₂.block ≡ Ok tt → SameAnswers (after_calls b₁) (after_calls b₂)
   builds_answer new₁ new₂ =
       same_answers (after_calls b₁) (after_calls b₂) (draft b₁) (placed b₁ new₁)
       (subst (λ (cs : List LayoutCall). LaidOut (after_calls b₂) (layout_drafted no_draft cs)) (sym e) (placed b₂ new₂))

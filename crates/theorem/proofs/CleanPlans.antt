@@ -11,13 +11,13 @@ use Rattle.plan.proofs.Exact.{accepted_sound}
 use Rattle.trace.specs.Sources.{no_sources, behind, source_list}
 use Rattle.trace.specs.Clean.{none_written, clean_from, clean}
 use Rattle.trace.specs.Calls.{traced_steps, clean_answer}
-use Rattle.trace.specs.declared.CleanAnswer.TheVariants as answers
 use Rattle.trace.proofs.Answers.{clean_says}
 use Rattle.trace.proofs.Behind.{traced_coefficients, traced_clean, sound_known, listed}
 use Rattle.run.specs.Calls.{Fixed, steps_of_plan}
 use Rattle.theorem.proofs.Block.{Within}
+use Rattle.std.specs.Prelude.{Ok}
 
-module _ (f : Fixed) (words : List ℕ) (e : clean_answer f.plan f.indices words f.steps ≡ answers.Clean) where
+module _ (f : Fixed) (words : List ℕ) (e : clean_answer f.plan f.indices words f.steps ≡ (Ok true)) where
   pub clean_sound : Sound f.plan (short_lists f.plan f.indices words f.steps) f.indices words f.steps
   clean_sound =
       accepted_sound f.plan (short_lists f.plan f.indices words f.steps) f.indices words f.steps

@@ -10,12 +10,12 @@ use Rattle.plan.specs.Resolved.{patch, gain}
 use Rattle.builder.specs.Built.{buffers, node}
 use Rattle.insert.specs.Layout.{LayoutCall}
 use Rattle.trace.specs.Calls.{clean_answer}
-use Rattle.trace.specs.declared.CleanAnswer.TheVariants.{Clean}
 use Rattle.run.specs.Calls.{Call, set}
 use Rattle.theorem.specs.Builds.{Build, Finished, accepted_calls, fixed, changing, NoRampBuilt}
 use Rattle.theorem.specs.Journal.{total, settings_from, NoRampSet}
 use Rattle.theorem.specs.Statement.{Lists, a, b, first_journal, second_journal, Given, ListedCarryEqual, ChannelOf, SameOutput}
 use Rattle.theorem.proofs.ExampleParts.{definitions, one, two, three, four, one_two, two_three, sample_at, lent_for, singles, patch_step, gain_step, output_step, feed, BuiltBy, itself, some_channel_from, none_listed, one_listed}
+use Rattle.std.specs.Prelude.{true, Ok}
 
 -- ---- the premises one by one; together they are `Given`
 
@@ -36,7 +36,7 @@ common_of l first second e =
     }
 
 abbrev pub CleanPlan : Lists → Type 0
-CleanPlan l = clean_answer (fixed l.first).plan (fixed l.first).indices (changing l.first).words (fixed l.first).steps ≡ Clean
+CleanPlan l = clean_answer (fixed l.first).plan (fixed l.first).indices (changing l.first).words (fixed l.first).steps ≡ (Ok true)
 
 abbrev pub Alike : Lists → Type 0
 Alike l = settings_from (a l) 0 (first_journal l) ≡ settings_from (b l) 0 (second_journal l)

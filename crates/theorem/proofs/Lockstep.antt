@@ -10,7 +10,6 @@ use lib.ListN.{length, get_or, take, drop}
 use lib.Seq.{ext_get_or, length-take-le, drop_at}
 use lib.Ieee.{Float, nan}
 use borrow.Author.Tests.{lt-ltb}
-use Rattle.refusal.specs.declared.Answer.TheVariants.{Accepted}
 use Rattle.lists.specs.Parts.{part}
 use Rattle.mix.specs.Mix.{patched}
 use Rattle.plan.specs.Resolved.{Resolved}
@@ -27,6 +26,7 @@ use Rattle.theorem.proofs.Moments.{moment, CarryEqual, carried_heard}
 use Rattle.theorem.proofs.Settings.{by, heads, tails, not_empty, none_earlier}
 use Rattle.theorem.proofs.Runs.{Went, none, then, nodes_of, nodes_then, part_length, run_sample}
 use Rattle.theorem.proofs.Pairs.{SamePlan, below₁, below₂, one_sample}
+use Rattle.std.specs.Prelude.{Ok}
 
 -- what lasts from run to run, where the inputs of L carry equal samples
 pub record Same (f₁ f₂ : Fixed) (L : ℕ → Bool) (h₁ h₂ : Changing) : Type 0 where
@@ -59,7 +59,7 @@ module _ (n₁ n₂ : ℕ) (equal : n₁ ≡ n₂) (d₁ d₂ : List ℕ) (x₁ 
 -- ---- one accepted setting of each
 module _ (f₁ f₂ : Fixed) (L : ℕ → Bool) (h₁ h₂ : Changing) (lasting : Same f₁ f₂ L h₁ h₂) where
   set_lasts : (id₁ id₂ ramp₁ ramp₂ : ℕ) (values₁ values₂ : List Float)
-      → answer f₁ h₁ (set id₁ values₁ ramp₁) ≡ Accepted → answer f₂ h₂ (set id₂ values₂ ramp₂) ≡ Accepted
+      → answer f₁ h₁ (set id₁ values₁ ramp₁) ≡ Ok tt → answer f₂ h₂ (set id₂ values₂ ramp₂) ≡ Ok tt
       → nodes_set id₁ ramp₁ values₁ (nodes_of f₂ h₂) ≡ nodes_set id₂ ramp₂ values₂ (nodes_of f₂ h₂)
       → Same f₁ f₂ L (after f₁ h₁ (set id₁ values₁ ramp₁)) (after f₂ h₂ (set id₂ values₂ ramp₂))
   set_lasts id₁ id₂ ramp₁ ramp₂ values₁ values₂ e₁ e₂ alike =
@@ -88,7 +88,7 @@ module _ (f₁ f₂ : Fixed) (same : SamePlan f₁ f₂) (clean : clean_from non
 
   -- ---- one accepted run of each
   module _ (h₁ h₂ : Changing) (lasting : Same f₁ f₂ L h₁ h₂) (d₁ d₂ : List ℕ) (x₁ x₂ out₁ out₂ : List Float)
-      (e₁ : answer f₁ h₁ (run d₁ x₁ out₁) ≡ Accepted) (e₂ : answer f₂ h₂ (run d₂ x₂ out₂) ≡ Accepted) (es₁ es₂ : List Entry)
+      (e₁ : answer f₁ h₁ (run d₁ x₁ out₁) ≡ Ok tt) (e₂ : answer f₂ h₂ (run d₂ x₂ out₂) ≡ Ok tt) (es₁ es₂ : List Entry)
       (carry : (i c : ℕ) → L i ≡ true → CarryEqual f₁.plan.block f₂.plan.block i c (entry f₁ h₁ (run d₁ x₁ out₁) ∷ es₁) (entry f₂ h₂ (run d₂ x₂ out₂) ∷ es₂)) where
     abbrev o₁ : List Float
     o₁ = (processed (given_to f₁ d₁ x₁) (start f₁ h₁ out₁)).output

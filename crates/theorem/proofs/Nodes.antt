@@ -10,7 +10,6 @@ use lib.ListN.{length, get_or, set}
 use lib.Seq.{set-get_or, get_or-set_same, get_or-set_other, set_out}
 use lib.Ieee.{Float}
 use Rattle.lists.specs.Entries.{AllBelow}
-use Rattle.refusal.specs.declared.Answer.TheVariants.{Accepted}
 use Rattle.node.specs.declared.Node.{Node}
 use Rattle.node.specs.Nodes.{zero_node, set_node, finish_block}
 use Rattle.node.specs.Areas.{Room, node_at, nodes}
@@ -24,6 +23,7 @@ use Rattle.run.specs.Run.{State, finished, stepped, run_steps}
 use Rattle.run.proofs.States.{step_lengths, ends, step_nodes}
 use Rattle.theorem.proofs.Steps.{InPlan}
 use Rattle.theorem.proofs.Block.{Every}
+use Rattle.std.specs.Prelude.{Ok}
 
 -- what stands past the end of a list
 abbrev pub nobody : Node
@@ -130,7 +130,7 @@ module _ (count : ℕ) (floats : List Float) (words : List ℕ) where
       let e : nth (nodes count floats words) n ≡ node_at floats words n = get_d_nodes count floats words n nobody (omega arith) in
       rw (e, node_with_lem n id (omega arith))
 
-  pub set_nodes : (id ramp : ℕ) (values : List Float) → setting_answer count id ramp (length floats) words ≡ Accepted
+  pub set_nodes : (id ramp : ℕ) (values : List Float) → setting_answer count id ramp (length floats) words ≡ Ok tt
       → nodes count (setting_floats count id values ramp floats words) (setting_words count id values ramp floats words) ≡ nodes_set id ramp values (nodes count floats words)
   unfolding nodes_set
   set_nodes id ramp values e =

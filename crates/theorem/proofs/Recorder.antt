@@ -7,9 +7,7 @@ use mathlib.Core.List.{List, [], ◌∷◌, ◌++◌, append-nil}
 use Prim.Native.Nat.{ℕ}
 use lib.Ieee.{Float}
 use Rattle.lists.specs.Entries.{has}
-use Rattle.refusal.specs.Tests.{outcome}
-use Rattle.refusal.specs.declared.Answer.{Answer}
-use Rattle.refusal.specs.declared.Answer.TheVariants.{Accepted}
+use Rattle.refusal.specs.Tests.{outcome, Answer}
 use Rattle.run.specs.Run.{processed}
 use Rattle.run.specs.Calls.{Fixed, Changing, run, given_to, start, answer, steps_of_plan}
 use Rattle.theorem.specs.Journal.{Entry, ran, journal}
@@ -18,6 +16,7 @@ use Rattle.theorem.specs.Traced.{IsClean, list_for}
 use Rattle.theorem.specs.Recorder.{Inputs, block, SameInput, block_at, Changes}
 use Rattle.theorem.proofs.Moments.{CarryEqual}
 use Rattle.theorem.proofs.OneDraft.{Premises, drafts_agree}
+use Rattle.std.specs.Prelude.{Ok}
 
 module _ (f : Fixed) (h : Changing) (out : List Float) where
   abbrev n : ℕ
@@ -27,7 +26,7 @@ module _ (f : Fixed) (h : Changing) (out : List Float) where
   abbrev entry_of : Inputs → Entry
   entry_of x = ran x.directory x.samples (processed (given_to f x.directory x.samples) (start f h out)).output
 
-  one_entry : (x : Inputs) → answer f h (run x.directory x.samples out) ≡ Accepted → journal f h (run x.directory x.samples out ∷ []) ≡ entry_of x ∷ []
+  one_entry : (x : Inputs) → answer f h (run x.directory x.samples out) ≡ Ok tt → journal f h (run x.directory x.samples out ∷ []) ≡ entry_of x ∷ []
   one_entry x e = ap (λ (t : Answer). outcome t (entry_of x ∷ []) (λ _. [])) e
 
   -- an input that is the same in both runs, as journals of one run have it

@@ -13,10 +13,8 @@ use lib.Ieee.{Float, nan}
 use borrow.Author.Tests.{ltb-true, ltb-false}
 use Rattle.lists.specs.Parts.{part}
 use Rattle.lists.proofs.Stores.{length_part}
-use Rattle.refusal.specs.Tests.{outcome}
+use Rattle.refusal.specs.Tests.{outcome, Answer}
 use Rattle.refusal.specs.declared.Refusal.{Refusal}
-use Rattle.refusal.specs.declared.Answer.{Answer}
-use Rattle.refusal.specs.declared.Answer.TheVariants.{Accepted, Refused}
 use Rattle.node.specs.declared.Node.{Node}
 use Rattle.node.specs.Areas.{Room, nodes}
 use Rattle.mix.specs.Samples.{sample}
@@ -42,6 +40,7 @@ use Rattle.theorem.proofs.Steps.{InPlan}
 use Rattle.theorem.proofs.Block.{Every}
 use Rattle.theorem.proofs.Nodes.{nodes_after, run_nodes, set_nodes}
 use Rattle.theorem.proofs.Moments.{Moment, moment, moment_at, later}
+use Rattle.std.specs.Prelude.{Ok, Err}
 
 -- ---- the steps of an accepted plan are in the plan
 
@@ -71,9 +70,9 @@ module _ (p : Plan) (indices : List ℕ) (coefficients : List Float) where
 -- ---- a journal, entry by entry: each was accepted in the state that those before it left
 pub data Went (f : Fixed) : Changing → List Entry → Type 0 where
   none : {h : Changing} → Went f h []
-  then : {h : Changing} {es : List Entry} (c : Call) → answer f h c ≡ Accepted → Went f (after f h c) es → Went f h (entry f h c ∷ es)
+  then : {h : Changing} {es : List Entry} (c : Call) → answer f h c ≡ Ok tt → Went f (after f h c) es → Went f h (entry f h c ∷ es)
 
-refused_call : (f : Fixed) (h : Changing) (c : Call) (r : Refusal) → answer f h c ≡ Refused r → after f h c ≡ h
+refused_call : (f : Fixed) (h : Changing) (c : Call) (r : Refusal) → answer f h c ≡ Err r → after f h c ≡ h
 refused_call f h (set id values ramp) r e = refused_set f h id values ramp r e
 refused_call f h (run directory samples out) r e = ap left_by (refused_run f h directory samples out r e)
 
@@ -85,8 +84,8 @@ went f (c ∷ cs) h = go (answer f h c) refl (went f cs (after f h c))
     es = journal f (after f h c) cs
 
     go : (a : Answer) → answer f h c ≡ a → Went f (after f h c) es → Went f h (outcome a (entry f h c ∷ es) (λ _. es))
-    go Accepted e w = then c e w
-    go (Refused r) e w = subst (λ (x : Changing). Went f x es) (refused_call f h c r e) w
+    go (Ok _) e w = then c e w
+    go (Err r) e w = subst (λ (x : Changing). Went f x es) (refused_call f h c r e) w
 
 -- ---- an accepted run
 module _ (f : Fixed) where
@@ -107,7 +106,7 @@ module _ (f : Fixed) where
     pub wrote : s.wrote ≡ 0
     pub in_plan : Every (InPlan f.plan.nodes f.plan.buffers) steps
 
-  module _ (h : Changing) (directory : List ℕ) (samples out : List Float) (e : answer f h (run directory samples out) ≡ Accepted) where
+  module _ (h : Changing) (directory : List ℕ) (samples out : List Float) (e : answer f h (run directory samples out) ≡ Ok tt) where
     abbrev g : RunGiven
     g = given_to f directory samples
 
@@ -143,7 +142,7 @@ module _ (f : Fixed) where
     reach : (len : ℕ) → output_channels steps * n ≤ len → q * n + n ≤ len
     reach len h = omega (arith, mul-le-mul_right n inside, suc-mul q n)
 
-    module _ (h : Changing) (directory : List ℕ) (samples out : List Float) (e : answer f h (run directory samples out) ≡ Accepted) where
+    module _ (h : Changing) (directory : List ℕ) (samples out : List Float) (e : answer f h (run directory samples out) ≡ Ok tt) where
       abbrev left : List Float
       left = (processed (given_to f directory samples) (start f h out)).output
 

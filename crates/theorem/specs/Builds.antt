@@ -1,6 +1,5 @@
 -- A build: `new`, a list of builder calls, inserts among them, and `finish`, in lent areas of any content and length. Definitions only.
-use Rattle.std.specs.Prelude.{ℕ, ◌≡◌, List, [], ◌∷◌, map, length}
-use Rattle.refusal.specs.declared.Answer.TheVariants.{Accepted}
+use Rattle.std.specs.Prelude.{ℕ, ◌≡◌, List, [], ◌∷◌, map, length, Ok}
 use Rattle.plan.specs.Limits.{unit_limits}
 use Rattle.plan.specs.Areas.{Areas}
 use Rattle.builder.specs.Calls.{new_answer, empty_plan, finish_answer, finish_area}
@@ -38,8 +37,8 @@ accepted_calls b = accepted_layout (begun b) (unit_calls b.calls)
 
 -- `new` and `finish` are accepted
 pub record Finished (b : Build) : Type 0 where
-  pub new : new_answer b.block ≡ Accepted
-  pub finish : finish_answer unit_limits (after_calls b).plan (length b.lent.buffers) ≡ Accepted
+  pub new : new_answer b.block ≡ Ok tt
+  pub finish : finish_answer unit_limits (after_calls b).plan (length b.lent.buffers) ≡ Ok tt
 
 -- "each list starts at the plan that `finish` left": its record and the areas that no later call writes, and those that later calls write
 abbrev pub fixed : Build → Fixed

@@ -1,8 +1,7 @@
 -- What follows for the recorder, of any plan and areas: two accepted runs from the same state, whose inputs differ in one input alone.
 -- Definitions only.
-use Rattle.std.specs.Prelude.{ℕ, ◌*◌, ◌≤◌, ◌<◌, ◌≡◌, ◌⊎◌, List, length, take, Float}
+use Rattle.std.specs.Prelude.{ℕ, ◌*◌, ◌≤◌, ◌<◌, ◌≡◌, ◌⊎◌, List, length, take, Float, Ok}
 use Rattle.lists.specs.Parts.{part}
-use Rattle.refusal.specs.declared.Answer.TheVariants.{Accepted}
 use Rattle.input.specs.Input.{lookup}
 use Rattle.run.specs.Run.{processed}
 use Rattle.run.specs.Calls.{Fixed, Changing, run, given_to, start, answer}
@@ -31,7 +30,7 @@ module _ (f : Fixed) (h : Changing) (output : List Float) where
   pub record Changes (i q : ℕ) : Type 0 where
     pub one : Inputs
     pub other : Inputs
-    pub one_accepted : answer f h (run one.directory one.samples output) ≡ Accepted
-    pub other_accepted : answer f h (run other.directory other.samples output) ≡ Accepted
+    pub one_accepted : answer f h (run one.directory one.samples output) ≡ Ok tt
+    pub other_accepted : answer f h (run other.directory other.samples output) ≡ Ok tt
     pub same_but : (j c : ℕ) → (j ≡ i → ⊥) → SameInput one other j c
     pub differ : block_at one q ≡ block_at other q → ⊥

@@ -18,12 +18,10 @@ use Rattle.plan.specs.Resolved.{patch, clear, output, resolved_steps}
 use Rattle.trace.specs.Sources.{union, spread, joins, behind, source_list, slot_count}
 use Rattle.trace.specs.Clean.{written_after, all, clean_step, clean_from, clean}
 use Rattle.trace.specs.Calls.{traced_steps, trace_answer, sources_answer, sources_area, all_traced, all_answer, all_counts, all_lists, clean_answer}
-use Rattle.trace.specs.declared.Sources.{Sources}
-use Rattle.trace.specs.declared.Sources.TheVariants.{Listed, Refused}
-use Rattle.trace.specs.declared.AllSources.{AllSources}
-use Rattle.trace.specs.declared.AllSources.TheVariants as every
-use Rattle.trace.specs.declared.CleanAnswer.TheVariants.{Clean, NotClean}
 use Rattle.trace.proofs.Behind.{traced_coefficients}
+use Rattle.refusal.specs.declared.Reason.TheVariants.{NoSlot, OutsideTable, ShortArea}
+use Rattle.std.specs.Prelude.{true, false, Ok, Err, Some, None, Result}
+use Rattle.refusal.specs.declared.Refusal.{Refusal}
 
 -- Patch of an input to buffer 0, Clear 1, Send 0 to 1, Output 1 to slot 2. The index list is the two buffers, and the Send has one weight.
 abbrev plan : Plan
@@ -48,42 +46,42 @@ steps input =
     ∷ []
 
 -- with a list's area of one place, which holds 9
-abbrev answered : ℕ → ℕ → Sources
+abbrev answered : ℕ → ℕ → Result ℕ Refusal
 answered input slot = sources_answer plan slot indices node_word_count (steps input) 1
 
 abbrev left : ℕ → ℕ → List ℕ
 left input slot = sources_area plan slot indices node_word_count (steps input) (9 ∷ [])
 
 -- the lists: empty, empty, [3]
-pub case_8_slot_0 : (answered 3 0 ≡ Listed 0) × (left 3 0 ≡ 9 ∷ [])
+pub case_8_slot_0 : (answered 3 0 ≡ Ok 0) × (left 3 0 ≡ 9 ∷ [])
 unfolding sources_answer sources_area trace_answer some_from id_among id_twice words_of steps_tests read_at step_of ones ones_in outside_by too_wide has meet shares decoded decoded_from sift union spread joins behind source_list slot_count
 case_8_slot_0 = (refl, refl)
 
-pub case_8_slot_1 : (answered 3 1 ≡ Listed 0) × (left 3 1 ≡ 9 ∷ [])
+pub case_8_slot_1 : (answered 3 1 ≡ Ok 0) × (left 3 1 ≡ 9 ∷ [])
 unfolding sources_answer sources_area trace_answer some_from id_among id_twice words_of steps_tests read_at step_of ones ones_in outside_by too_wide has meet shares decoded decoded_from sift union spread joins behind source_list slot_count
 case_8_slot_1 = (refl, refl)
 
-pub case_8_slot_2 : (answered 3 2 ≡ Listed 1) × (left 3 2 ≡ 3 ∷ [])
+pub case_8_slot_2 : (answered 3 2 ≡ Ok 1) × (left 3 2 ≡ 3 ∷ [])
 unfolding sources_answer sources_area trace_answer some_from id_among id_twice words_of steps_tests read_at step_of ones ones_in outside_by too_wide has meet shares decoded decoded_from sift union spread joins behind source_list slot_count
 case_8_slot_2 = (refl, refl)
 
 -- slot 3 is refused 15
-pub case_8_slot_3 : (answered 3 3 ≡ Refused (refusal 15 0)) × (left 3 3 ≡ 9 ∷ [])
+pub case_8_slot_3 : (answered 3 3 ≡ Err (refusal NoSlot None)) × (left 3 3 ≡ 9 ∷ [])
 unfolding sources_answer sources_area trace_answer some_from id_among id_twice words_of steps_tests read_at step_of ones ones_in outside_by too_wide has meet shares decoded decoded_from sift union spread joins behind source_list slot_count
 case_8_slot_3 = (refl, refl)
 
 -- the three at once: how many inputs each slot has, and the inputs of slot 2 from its 256 places on; all else stays 9
-abbrev all_at_once : ℕ → ℕ → AllSources
+abbrev all_at_once : ℕ → ℕ → Result ℕ Refusal
 all_at_once m n = all_answer plan indices node_word_count (steps 3) m n
 
-pub case_8_all : (all_at_once 4 768 ≡ every.Slots 3)
+pub case_8_all : (all_at_once 4 768 ≡ Ok 3)
     × (all_counts plan indices node_word_count (steps 3) (9 ∷ 9 ∷ 9 ∷ 9 ∷ []) 768 ≡ 0 ∷ 0 ∷ 1 ∷ 9 ∷ [])
     × (all_lists plan indices node_word_count (steps 3) 4 (replicate 768 9) ≡ replicate 512 9 ++ 3 ∷ replicate 255 9)
 unfolding all_answer all_counts all_lists all_traced some_from id_among id_twice words_of steps_tests read_at step_of ones ones_in outside_by too_wide has meet shares decoded decoded_from sift union spread joins behind source_list slot_count
 case_8_all = (refl, refl, refl)
 
 -- one place less, for the counts or for the lists, is refused 2
-pub case_8_short : (all_at_once 2 768 ≡ every.Refused (refusal 2 0)) × (all_at_once 3 767 ≡ every.Refused (refusal 2 0))
+pub case_8_short : (all_at_once 2 768 ≡ Err (refusal ShortArea None)) × (all_at_once 3 767 ≡ Err (refusal ShortArea None))
 unfolding all_answer all_traced some_from id_among id_twice words_of steps_tests read_at step_of ones ones_in outside_by too_wide has meet shares decoded decoded_from sift union spread joins behind source_list slot_count
 case_8_short = (refl, refl)
 
@@ -96,16 +94,16 @@ pub case_8_weight : (weight : Float) → source_list 2 (resolved_steps plan indi
 case_8_weight weight = traced_coefficients plan indices (weight ∷ []) (steps 3) 2 ∙ list_2
 
 -- a plan with a fault of its own, an input of 256 in its first step, answers that, and not 15
-pub fault_before_15 : answered 256 3 ≡ Refused (refusal 4 1)
+pub fault_before_15 : answered 256 3 ≡ Err (refusal OutsideTable (Some 1))
 unfolding sources_answer trace_answer some_from id_among id_twice words_of steps_tests read_at step_of ones ones_in outside_by slot_count
 fault_before_15 = refl
 
 -- the plan is clean, and without its Clear, of which no step writes buffer 1, it is not
-pub case_8_clean : clean_answer plan indices node_word_count (steps 3) ≡ Clean
+pub case_8_clean : clean_answer plan indices node_word_count (steps 3) ≡ (Ok true)
 unfolding clean_answer checked some_from id_among id_twice words_of steps_tests read_at step_of ones ones_in outside_by too_wide has meet shares decoded decoded_from written_after all clean_step clean_from clean
 case_8_clean = refl
 
-pub send_to_unwritten : clean_answer unclear indices node_word_count (patch_map ∷ 3 ∷ 0 ∷ 0 ∷ send_map ∷ 0 ∷ 0 ∷ 1 ∷ 1 ∷ 1 ∷ 0 ∷ 1 ∷ output_map ∷ 1 ∷ 1 ∷ 2 ∷ []) ≡ NotClean
+pub send_to_unwritten : clean_answer unclear indices node_word_count (patch_map ∷ 3 ∷ 0 ∷ 0 ∷ send_map ∷ 0 ∷ 0 ∷ 1 ∷ 1 ∷ 1 ∷ 0 ∷ 1 ∷ output_map ∷ 1 ∷ 1 ∷ 2 ∷ []) ≡ (Ok false)
 unfolding clean_answer checked some_from id_among id_twice words_of steps_tests read_at step_of ones ones_in outside_by too_wide has meet shares decoded decoded_from written_after all clean_step clean_from clean
 send_to_unwritten = refl
 

@@ -1,12 +1,9 @@
 -- `output_sources`, `all_sources` and the clean answer as calls. Each is lent the index list, the node words and the step words, and no
 -- coefficients, which none reads. Definitions only.
-use Rattle.std.specs.Prelude.{ℕ, zero, suc, ◌*◌, ◌||◌, cond, List, [], ◌∷◌, ◌++◌, ltb, leb, length}
+use Rattle.std.specs.Prelude.{ℕ, zero, suc, ◌*◌, ◌||◌, true, false, cond, List, [], ◌∷◌, ◌++◌, ltb, leb, length, Ok, Err, Result, Bool}
 use Rattle.std.proofs.lemmas.List.Edits.{sets}
 use Rattle.lists.specs.Parts.{upto}
-use Rattle.refusal.specs.Numbers.{short_area, no_slot}
-use Rattle.refusal.specs.Tests.{Test, test, first, outcome, area_after}
-use Rattle.refusal.specs.declared.Answer.{Answer}
-use Rattle.refusal.specs.declared.Answer.TheVariants.{Accepted}
+use Rattle.refusal.specs.Tests.{Test, test, first, outcome, area_after, Answer}
 use Rattle.plan.specs.declared.Plan.{Plan}
 use Rattle.plan.specs.Limits.{inputs}
 use Rattle.plan.specs.Areas.{short_lists}
@@ -14,12 +11,8 @@ use Rattle.plan.specs.Check.{plan_tests, checked}
 use Rattle.plan.specs.Resolved.{Resolved, resolved_steps}
 use Rattle.trace.specs.Sources.{source_list, slot_count}
 use Rattle.trace.specs.Clean.{clean}
-use Rattle.trace.specs.declared.Sources.{Sources}
-use Rattle.trace.specs.declared.Sources.TheVariants as sources
-use Rattle.trace.specs.declared.AllSources.{AllSources}
-use Rattle.trace.specs.declared.AllSources.TheVariants as every
-use Rattle.trace.specs.declared.CleanAnswer.{CleanAnswer}
-use Rattle.trace.specs.declared.CleanAnswer.TheVariants as answers
+use Rattle.refusal.specs.declared.Reason.TheVariants.{NoSlot, ShortArea}
+use Rattle.refusal.specs.declared.Refusal.{Refusal}
 
 -- the steps that a trace goes over
 abbrev pub traced_steps : Plan → List ℕ → List ℕ → List Resolved
@@ -30,19 +23,19 @@ traced_steps p indices steps = resolved_steps p indices [] steps
 abbrev pub trace_tests : Plan → ℕ → List ℕ → List ℕ → List ℕ → ℕ → List Test
 trace_tests p slot indices words steps n =
     plan_tests p (short_lists p indices words steps) indices words steps
-    ++ test no_slot (leb (slot_count (traced_steps p indices steps)) slot)
-    ∷ test short_area (ltb n (length (source_list slot (traced_steps p indices steps))))
+    ++ test NoSlot (leb (slot_count (traced_steps p indices steps)) slot)
+    ∷ test ShortArea (ltb n (length (source_list slot (traced_steps p indices steps))))
     ∷ []
 
 unfoldable pub trace_answer : Plan → ℕ → List ℕ → List ℕ → List ℕ → ℕ → Answer
 unfolding slot_count source_list
-trace_answer p slot indices words steps n = first (trace_tests p slot indices words steps n) Accepted
+trace_answer p slot indices words steps n = first (trace_tests p slot indices words steps n) (Ok tt)
 
 -- what it answers: the count of the inputs behind the slot, "the count is the list's length", or the refusal
-unfoldable pub sources_answer : Plan → ℕ → List ℕ → List ℕ → List ℕ → ℕ → Sources
+unfoldable pub sources_answer : Plan → ℕ → List ℕ → List ℕ → List ℕ → ℕ → Result ℕ Refusal
 unfolding trace_answer
 sources_answer p slot indices words steps n =
-    outcome (trace_answer p slot indices words steps n) (sources.Listed (length (source_list slot (traced_steps p indices steps)))) sources.Refused
+    outcome (trace_answer p slot indices words steps n) (Ok (length (source_list slot (traced_steps p indices steps)))) Err
 
 -- the list's area after it: the inputs at its front
 unfoldable pub sources_area : Plan → ℕ → List ℕ → List ℕ → List ℕ → List ℕ → List ℕ
@@ -56,18 +49,18 @@ sources_area p slot indices words steps area =
 abbrev pub all_tests : Plan → List ℕ → List ℕ → List ℕ → ℕ → ℕ → List Test
 all_tests p indices words steps m n =
     plan_tests p (short_lists p indices words steps) indices words steps
-    ++ test short_area (ltb m (slot_count (traced_steps p indices steps)) || ltb n (slot_count (traced_steps p indices steps) * inputs))
+    ++ test ShortArea (ltb m (slot_count (traced_steps p indices steps)) || ltb n (slot_count (traced_steps p indices steps) * inputs))
     ∷ []
 
 unfoldable pub all_traced : Plan → List ℕ → List ℕ → List ℕ → ℕ → ℕ → Answer
 unfolding slot_count
-all_traced p indices words steps m n = first (all_tests p indices words steps m n) Accepted
+all_traced p indices words steps m n = first (all_tests p indices words steps m n) (Ok tt)
 
 -- what it answers: the count of the slots, or the refusal
-unfoldable pub all_answer : Plan → List ℕ → List ℕ → List ℕ → ℕ → ℕ → AllSources
+unfoldable pub all_answer : Plan → List ℕ → List ℕ → List ℕ → ℕ → ℕ → Result ℕ Refusal
 unfolding all_traced
 all_answer p indices words steps m n =
-    outcome (all_traced p indices words steps m n) (every.Slots (slot_count (traced_steps p indices steps))) every.Refused
+    outcome (all_traced p indices words steps m n) (Ok (slot_count (traced_steps p indices steps))) Err
 
 -- both areas once the first n slots are done, where slot s has the inputs `list s`: how many these are at place s, and the inputs from s * 256 on
 abbrev pub counts_of : (ℕ → List ℕ) → ℕ → List ℕ → List ℕ
@@ -92,8 +85,8 @@ all_lists p indices words steps m lists =
 
 -- ---- the clean answer: the plan's tests
 
-unfoldable pub clean_answer : Plan → List ℕ → List ℕ → List ℕ → CleanAnswer
+unfoldable pub clean_answer : Plan → List ℕ → List ℕ → List ℕ → Result Bool Refusal
 unfolding clean
 clean_answer p indices words steps =
     outcome (checked p (short_lists p indices words steps) indices words steps)
-    (cond (clean (traced_steps p indices steps)) answers.Clean answers.NotClean) answers.Refused
+    (cond (clean (traced_steps p indices steps)) (Ok true) (Ok false)) Err

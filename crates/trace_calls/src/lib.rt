@@ -8,11 +8,11 @@ ghost use Rattle.trace.specs.Calls.{sources_answer, sources_area, all_answer, al
 
 use plan::Plan;
 use plan_check::check_lists;
-use refusal::{Answer, Refusal};
-use slots::{LIST_PLACES, write_lists};
-use trace::{AllSources, CleanAnswer, Sources};
+use refusal::{Reason, Refusal};
+use sets::Set;
+use slots::{LIST_PLACES, SLOTS, write_lists};
 use trace_clean::all_clean;
-use trace_sources::{SLOT_WORDS, behind, load};
+use trace_sources::behind;
 
 // The inputs behind one slot, ascending, at the front of `list`.
 pub fn output_sources(
@@ -22,26 +22,24 @@ pub fn output_sources(
     node_words: &[u32],
     steps: &[u32],
     list: &mut [u16],
-) -> Sources
+) -> Result<u32, Refusal>
     ensures answer { result ≡ sources_answer plan slot indices.now node_words.now steps.now (length list.old) }
     ensures list { list.new ≡ sources_area plan slot indices.now node_words.now steps.now list.old }
 {
-    if let Answer::Refused(r) = check_lists(plan, indices, node_words, steps) {
-        return Sources::Refused(r);
-    }
+    check_lists(plan, indices, node_words, steps)?; // before the slot's own reason
     let words = plan.words;
-    let mut slots = [0u64; SLOT_WORDS];
+    let mut slots = [Set::empty(); SLOTS];
     let n = behind(plan, indices, &steps[..words], &mut slots);
     if n <= slot as usize {
-        return Sources::Refused(Refusal::of(Refusal::NO_SLOT));
+        return Err(Reason::NoSlot.into());
     }
-    let set = load(&slots, slot);
+    let set = slots[slot as usize];
     let count = set.count();
     if list.len() < count as usize {
-        return Sources::Refused(Refusal::of(Refusal::SHORT_AREA));
+        return Err(Reason::ShortArea.into());
     }
     set.list(list);
-    Sources::Listed(count)
+    Ok(count)
 }
 
 // The inputs behind every slot s: how many at place s of `counts`, and which, ascending, from place 256 * s of `lists` on. One walk of the steps, as
@@ -53,34 +51,32 @@ pub fn all_sources(
     steps: &[u32],
     counts: &mut [u32],
     lists: &mut [u16],
-) -> AllSources
+) -> Result<u32, Refusal>
     ensures answer { result ≡ all_answer plan indices.now node_words.now steps.now (length counts.old) (length lists.old) }
     ensures counts { counts.new ≡ all_counts plan indices.now node_words.now steps.now counts.old (length lists.old) }
     ensures lists { lists.new ≡ all_lists plan indices.now node_words.now steps.now (length counts.old) lists.old }
 {
-    if let Answer::Refused(refused) = check_lists(plan, indices, node_words, steps) {
-        return AllSources::Refused(refused);
-    }
+    check_lists(plan, indices, node_words, steps)?;
     let words = plan.words;
-    let mut sets = [0u64; SLOT_WORDS];
+    let mut sets = [Set::empty(); SLOTS];
     let n = behind(plan, indices, &steps[..words], &mut sets);
     if (counts.len() < n) | (lists.len() < n * LIST_PLACES) {
-        return AllSources::Refused(Refusal::of(Refusal::SHORT_AREA));
+        return Err(Reason::ShortArea.into());
     }
     write_lists(&sets, n, counts, lists);
-    AllSources::Slots(n as u32)
+    Ok(n as u32)
 }
 
 // Whether a plan is clean, as document 01 has it.
-pub fn clean_answer(plan: Plan, indices: &[u32], node_words: &[u32], steps: &[u32]) -> CleanAnswer
+pub fn clean_answer(
+    plan: Plan,
+    indices: &[u32],
+    node_words: &[u32],
+    steps: &[u32],
+) -> Result<bool, Refusal>
     ensures { result ≡ clean_answer plan indices.now node_words.now steps.now }
 {
-    if let Answer::Refused(r) = check_lists(plan, indices, node_words, steps) {
-        return CleanAnswer::Refused(r);
-    }
+    check_lists(plan, indices, node_words, steps)?;
     let words = plan.words;
-    if all_clean(plan, indices, &steps[..words]) {
-        return CleanAnswer::Clean;
-    }
-    CleanAnswer::NotClean
+    Ok(all_clean(plan, indices, &steps[..words]))
 }

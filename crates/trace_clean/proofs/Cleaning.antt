@@ -1,18 +1,15 @@
 -- The clean answer's walk: a list of buffers one by one, what a step is known as, and what holds between two steps. Assumes nothing.
 use mathlib.Core.Path.{◌≡◌, refl, sym, ap, ◌∙◌, subst}
 use mathlib.Core.Bool.{Bool, true, false, ◌&&◌}
-use mathlib.Core.List.{List, [], map}
-use Prim.Native.Nat.{ℕ, ◌+◌, ◌-◌, ◌≤◌, ◌<◌}
+use mathlib.Core.List.{List, [], ◌∷◌, map}
+use Prim.Native.Nat.{ℕ, zero, suc, ◌+◌, ◌-◌, ◌≤◌, ◌<◌}
 use native.Mathlib.Nat.{sub-zero}
-use native.Mathlib.Numerals.{add-one}
 use native.Mathlib.Omega.{arith}
-use lib.ListN.{length, get_or, drop}
-use lib.Seq.{drop-cons, drop-length}
+use lib.ListN.{length}
 use Rattle.sets.specs.declared.Set.{Set}
 use Rattle.sets.specs.Sets.{member}
 use Rattle.plan.specs.declared.Plan.{Plan}
 use Rattle.plan.specs.declared.Step.{Step}
-use Rattle.plan.specs.declared.Read.TheVariants.{Found, Bad}
 use Rattle.plan.specs.Limits.{unit_limits}
 use Rattle.plan.specs.Words.{read_at, decoded_from, decoded}
 use Rattle.plan.specs.Sound.{Placed, Passes, Tested}
@@ -21,32 +18,31 @@ use Rattle.plan.proofs.Answers.{rest_of}
 use Rattle.plan.proofs.Words.{decoded_on, decoded_bad, decoded_none}
 use Rattle.plan.proofs.Accepted.{pass_placed, pass_rest}
 use Rattle.trace.specs.Clean.{none_written, written_after, all, clean_step, clean_from, clean}
+use Rattle.std.specs.Prelude.{Some, None}
+use Rattle.std.specs.Bool.{MatchBool}
+use Rattle.std.specs.List.{AllWithin, HoldsAt}
 
--- ---- a list of buffers, of which k are in the set
-module _ (w : ℕ → Bool) (xs : List ℕ) where
-  pub record Scanning (k : ℕ) : Type 0 where
-    pub turns : k ≤ length xs
-    pub so : all w xs ≡ all w (drop k xs)
+-- ---- a list of buffers, tested one by one
+module _ (w : ℕ → Bool) where
+  all_true : (xs : List ℕ) → AllWithin (λ x. w x ≡ true) xs 0 (length xs) → all w xs ≡ true
+  unfolding all
+  all_true [] h = refl
+  all_true (x ∷ xs) h = rw (h 0 0 (omega arith) (omega arith)) (all_true xs (λ k d a b. h (suc k) d (omega arith) (omega arith)))
 
-  pub scanning_starts : Scanning 0
-  scanning_starts = record { turns = omega arith; so = refl }
+  all_false : (xs : List ℕ) (k : ℕ) → k < length xs → HoldsAt (λ x. w x ≡ false) xs k → all w xs ≡ false
+  unfolding all
+  all_false [] k b h = absurd (omega arith)
+  all_false (x ∷ xs) zero b h = rw (h 0)
+  all_false (x ∷ xs) (suc k) b h = go (w x) (all_false xs k (omega arith) (λ d. h d))
+    where
+      go : (t : Bool) → all w xs ≡ false → (t && all w xs) ≡ false
+      go true e = e
+      go false e = refl
 
-  module _ {k : ℕ} (c : Scanning k) where
-    here : k < length xs → all w xs ≡ (w (get_or xs k 0) && all w (drop (k + 1) xs))
-    unfolding all
-    here h = c.so ∙ rw (add-one, drop-cons xs k 0 h)
-
-    pub scanning_no : k < length xs → w (get_or xs k 0) ≡ false → false ≡ all w xs
-    scanning_no h e = sym (here h ∙ rw e)
-
-    pub scanning_on : k < length xs → w (get_or xs k 0) ≡ true → Scanning (k + 1)
-    scanning_on h e = record { turns = omega arith; so = here h ∙ rw e }
-
-    pub scanning_ends : length xs ≤ k → true ≡ all w xs
-    unfolding all
-    scanning_ends h =
-        let e : k ≡ length xs = omega (arith, c.turns) in
-        sym (c.so ∙ ap (λ (n : ℕ). all w (drop n xs)) e ∙ ap (all w) (drop-length xs))
+  pub all_says : (xs : List ℕ) (r : Bool)
+      → MatchBool r (AllWithin (λ x. w x ≡ true) xs 0 (length xs)) ((k : ℕ) × (k < length xs) × HoldsAt (λ x. w x ≡ false) xs k) → r ≡ all w xs
+  all_says xs true h = sym (all_true xs h)
+  all_says xs false h = sym (all_false xs h.0 h.1 h.2)
 
 -- ---- a step by what was read
 pub placed_as : (p : Plan) (indices : List ℕ) {x y : Step} → x ≡ y → Placed p indices x → Placed p indices y
@@ -86,7 +82,7 @@ module _ (p : Plan) (indices w : List ℕ) where
       }
 
   module _ {set : Set} {at i : ℕ} (c : Cleaning set at i) where
-    module _ (h : i < p.steps) {x : Step} {next : ℕ} (r : read_at w at ≡ Found x next) where
+    module _ (h : i < p.steps) {x : Step} {next : ℕ} (r : read_at w at ≡ Some (x, next)) where
       pub cleaning_fits : Placed p indices x × (p.buffers ≤ unit_limits.buffers)
       cleaning_fits = (pass_placed p indices w at (rest_of h) c.pass r, c.plan.buffers)
 
@@ -115,7 +111,7 @@ module _ (p : Plan) (indices w : List ℕ) where
     unfolding clean_from
     ended e = sym (c.so ∙ ap (λ (ss : List Step). clean_from (member set) (map (resolved p indices []) ss)) e)
 
-    pub cleaning_bad : i < p.steps → read_at w at ≡ Bad → true ≡ whole
+    pub cleaning_bad : i < p.steps → read_at w at ≡ None → true ≡ whole
     cleaning_bad h r = ended (decoded_bad w at (rest_of h) r)
 
     pub cleaning_ends : p.steps ≤ i → true ≡ whole

@@ -12,21 +12,14 @@ ghost use Rattle.plan.specs.Sound.{Within, Names, Placed, Tested};
 ghost use Rattle.plan.specs.Resolved.{resolved};
 ghost use Rattle.trace.specs.Clean.{written_after, all, clean_step, clean};
 
-use plan::{Plan, Read, Span, Step};
+use plan::{Plan, Span, Step};
 use sets::Set;
 
 // Every buffer of a list is in the set.
 fn all_in(set: Set, list: &[u32]) -> bool
     ensures { result ≡ all (member set) list.now }
 {
-    let mut k = 0;
-    while k < list.len() {
-        if !set.has(list[k]) {
-            return false;
-        }
-        k += 1;
-    }
-    true
+    list.iter().all(|b| set.has(*b))
 }
 
 // Every buffer of a span is in the set. Requires a span within the index list.
@@ -51,25 +44,10 @@ fn clean_step(plan: Plan, set: Set, indices: &[u32], step: Step) -> bool
     ensures { result ≡ clean_step (member set) (resolved plan indices.now [] step) }
 {
     match step {
-        Step::Patch {
-            input: _,
-            channel: _,
-            dst: _,
-        } => true,
-        Step::Gain { node: _, src, dst } => { (dst.len <= src.len) & span_in(set, indices, src) }
-        Step::Matrix {
-            node: _,
-            src,
-            dst: _,
-        } => span_in(set, indices, src),
-        Step::Clear { dst: _ } => true,
-        Step::Send {
-            node: _,
-            src,
-            dst,
-            coefficients: _,
-        } => span_in(set, indices, src) & span_in(set, indices, dst),
-        Step::Output { src, slot: _ } => span_in(set, indices, src),
+        Step::Patch { .. } | Step::Clear { .. } => true,
+        Step::Gain { src, dst, .. } => { (dst.len <= src.len) & span_in(set, indices, src) }
+        Step::Matrix { src, .. } | Step::Output { src, .. } => span_in(set, indices, src),
+        Step::Send { src, dst, .. } => span_in(set, indices, src) & span_in(set, indices, dst),
     }
 }
 
@@ -79,29 +57,11 @@ fn written(plan: Plan, set: Set, indices: &[u32], step: Step) -> Set
     ensures { (b : ℕ) → member result b ≡ written_after (member set) (resolved plan indices.now [] step) b }
 {
     match step {
-        Step::Patch {
-            input: _,
-            channel: _,
-            dst,
-        } => set.with(dst),
-        Step::Gain {
-            node: _,
-            src: _,
-            dst,
-        } => with_span(plan, set, indices, dst),
-        Step::Matrix {
-            node: _,
-            src: _,
-            dst,
-        } => with_span(plan, set, indices, dst),
-        Step::Clear { dst } => with_span(plan, set, indices, dst),
-        Step::Send {
-            node: _,
-            src: _,
-            dst: _,
-            coefficients: _,
-        } => set,
-        Step::Output { src: _, slot: _ } => set,
+        Step::Patch { dst, .. } => set.with(dst),
+        Step::Gain { dst, .. } | Step::Matrix { dst, .. } | Step::Clear { dst } => {
+            with_span(plan, set, indices, dst)
+        }
+        Step::Send { .. } | Step::Output { .. } => set,
     }
 }
 
@@ -114,7 +74,7 @@ pub fn all_clean(plan: Plan, indices: &[u32], steps: &[u32]) -> bool
     let mut set = Set::empty();
     let mut at = 0;
     for i in 0..n {
-        let Read::Found(step, next) = plan_reader::read_step(steps, at) else {
+        let Some((step, next)) = plan_reader::read_step(steps, at) else {
             return true;
         };
         if !clean_step(plan, set, indices, step) {

@@ -2,93 +2,47 @@
 use mathlib.Core.Path.{◌≡◌, refl, sym, ap, ◌∙◌}
 use mathlib.Core.Bool.{Bool, true, false, ◌||◌, cond, or_assoc, or-false, or_self}
 use mathlib.Core.List.{List}
-use mathlib.Core.Logic.{◌⊎◌, inl, inr}
-use Prim.Native.Nat.{ℕ, ◌+◌, ◌*◌, ◌<◌, ◌≤◌}
+use Prim.Native.Nat.{ℕ, ◌+◌, ◌<◌, ◌≤◌}
 use native.Mathlib.Decide.{dec_lt}
-use native.Mathlib.Numerals.{unary_clauses}
 use native.Mathlib.Omega.{arith}
 use lib.Dec.{eqb}
 use lib.ListN.{length, get_or, set, drop, replicate, length-replicate, get_or-replicate, get_or-eq_default}
-use lib.Seq.{sets}
 use borrow.Author.Tests.{eqb-true, eqb-false}
-use Rattle.lists.proofs.Stores.{get_d_sets, get_d_sets_at}
+use Rattle.std.proofs.lemmas.Grind.{get_or-set_at}
+use Rattle.std.proofs.lemmas.List.{get_or-set_other}
 use Rattle.lists.specs.Entries.{has}
 use Rattle.lists.proofs.Bools.{eqb_swap}
 use Rattle.lists.proofs.Scans.{Listed, has_listed, listed_here, listed_end}
 use Rattle.sets.specs.declared.Set.{Set}
-use Rattle.sets.specs.Sets.{member, words, set_words}
-use Rattle.sets.proofs.Laws.{member_empty}
+use Rattle.sets.specs.Sets.{member}
+use Rattle.sets.proofs.Laws.{member_none}
 use Rattle.trace.specs.Sources.{no_sources, union}
 use Rattle.trace_sources.specs.Loops.{set_at, sources_of, changed, other, joined}
 
 -- ---- the store of one set
-module _ (area : List ℕ) (b : ℕ) (s : Set) where
-  -- as the code stores its words
-  abbrev pub stored : List ℕ
-  stored = set (set (set (set area (b * set_words) s.w0) (b * set_words + 1) s.w1) (b * set_words + 2) s.w2) (b * set_words + 3) s.w3
+pub stored_sources : (area : List Set) (b : ℕ) (s : Set) → b < length area → (c i : ℕ)
+    → sources_of (set area b s) c i ≡ cond (eqb c b) (member s i) (sources_of area c i)
+stored_sources area b s h c i = go (eqb c b) refl
+  where
+    go : (t : Bool) → eqb c b ≡ t → sources_of (set area b s) c i ≡ cond t (member s i) (sources_of area c i)
+    go true e = ap (λ (x : Set). member x i) (get_or-set_at area b c s _ (eqb-true c b e) h)
+    go false e = ap (λ (x : Set). member x i) (get_or-set_other area b c s _ (eqb-false c b e))
 
-  stored_sets : stored ≡ sets area (b * set_words) (words s)
-  stored_sets = simp unary_clauses
-
-  pub stored_sources : b * set_words + set_words ≤ length area → (c i : ℕ) → sources_of stored c i ≡ cond (eqb c b) (member s i) (sources_of area c i)
-  stored_sources h c i = go (eqb c b) refl
+-- ---- an area of sets that have no member
+module _ (n : ℕ) (s : Set) (none : (i : ℕ) → member s i ≡ false) where
+  pub empties : sources_of (replicate n s) ≡ no_sources
+  empties = λ t b i. at b i t
     where
-      -- word k of the set that was stored, and of another
-      here : (k j : ℕ) → k < set_words → j ≡ b * set_words + k → get_or stored j 0 ≡ get_or (words s) k 0
-      here k j q e =
-          ap (λ (m : List ℕ). get_or m j 0) stored_sets
-          ∙ ap (λ (n : ℕ). get_or (sets area (b * set_words) (words s)) n 0) e
-          ∙ get_d_sets_at area (b * set_words) k (words s) 0 q (omega arith)
-
-      apart : (k j : ℕ) → k < set_words → j ≡ c * set_words + k → (c ≡ b → ⊥) → (j < b * set_words) ⊎ (b * set_words + set_words ≤ j)
-      apart k j q e n = elim (dec_lt c b) as (λ _. (j < b * set_words) ⊎ (b * set_words + set_words ≤ j)) [
-        | yes m ↦ inl (omega arith)
-        | no m ↦ inr (omega (arith, n))
+      at : (b i : ℕ) → sources_of (replicate n s) b i ≡ false
+      at b i = elim (dec_lt b n) as (λ _. sources_of (replicate n s) b i ≡ false) [
+        | yes h ↦ ap (λ (x : Set). member x i) (get_or-replicate n b s _ h) ∙ none i
+        | no h ↦ ap (λ (x : Set). member x i) (get_or-eq_default (replicate n s) _ {n = b} (rw length-replicate (omega arith))) ∙ member_none i
       ]
 
-      there : (k j : ℕ) → k < set_words → j ≡ c * set_words + k → (c ≡ b → ⊥) → get_or stored j 0 ≡ get_or area j 0
-      there k j q e n = ap (λ (m : List ℕ). get_or m j 0) stored_sets ∙ get_d_sets j area (b * set_words) (words s) 0 (apart k j q e n)
-
-      same : c ≡ b → set_at stored c ≡ s
-      same e = λ t. record {
-        w0 = here 0 (c * set_words) (omega arith) (omega arith) t;
-        w1 = here 1 (c * set_words + 1) (omega arith) (omega arith) t;
-        w2 = here 2 (c * set_words + 2) (omega arith) (omega arith) t;
-        w3 = here 3 (c * set_words + 3) (omega arith) (omega arith) t;
-      }
-
-      other : (c ≡ b → ⊥) → set_at stored c ≡ set_at area c
-      other n = λ t. record {
-        w0 = there 0 (c * set_words) (omega arith) (omega arith) n t;
-        w1 = there 1 (c * set_words + 1) (omega arith) refl n t;
-        w2 = there 2 (c * set_words + 2) (omega arith) refl n t;
-        w3 = there 3 (c * set_words + 3) (omega arith) refl n t;
-      }
-
-      go : (t : Bool) → eqb c b ≡ t → sources_of stored c i ≡ cond t (member s i) (sources_of area c i)
-      go true e = ap (λ (x : Set). member x i) (same (eqb-true c b e))
-      go false e = ap (λ (x : Set). member x i) (other (eqb-false c b e))
-
--- ---- an area of zeros
-pub zeros : (n : ℕ) → sources_of (replicate n 0) ≡ no_sources
-zeros n = λ t b i. at b i t
-  where
-    zero_at : (k : ℕ) → ◌≡◌ {A = ℕ} (get_or (replicate n 0) k 0) 0
-    zero_at k = elim (dec_lt k n) as (λ _. ◌≡◌ {A = ℕ} (get_or (replicate n 0) k 0) 0) [
-      | yes h ↦ get_or-replicate n k 0 0 h
-      | no h ↦ get_or-eq_default (replicate n 0) 0 {n = k} (rw length-replicate (omega arith))
-    ]
-
-    at : (b i : ℕ) → sources_of (replicate n 0) b i ≡ false
-    at b i =
-        ap (λ (x : Set). member x i)
-        (λ t. record { w0 = zero_at (b * set_words) t; w1 = zero_at (b * set_words + 1) t; w2 = zero_at (b * set_words + 2) t; w3 = zero_at (b * set_words + 3) t })
-        ∙ member_empty i
-
--- sets that are added to it
-pub zeros_or : (n : ℕ) (area : List ℕ) (f : ℕ → ℕ → Bool) → ((b i : ℕ) → sources_of area b i ≡ (sources_of (replicate n 0) b i || f b i))
-    → (b i : ℕ) → sources_of area b i ≡ f b i
-zeros_or n area f e b i = e b i ∙ ap (λ (g : ℕ → ℕ → Bool). g b i || f b i) (zeros n)
+  -- sets that are added to it
+  pub empties_or : (area : List Set) (f : ℕ → ℕ → Bool) → ((b i : ℕ) → sources_of area b i ≡ (sources_of (replicate n s) b i || f b i))
+      → (b i : ℕ) → sources_of area b i ≡ f b i
+  empties_or area f e b i = e b i ∙ ap (λ (g : ℕ → ℕ → Bool). g b i || f b i) empties
 
 -- ---- the same change by another name
 pub changed_as : (f g : ℕ → Bool → Bool) (sources : ℕ → ℕ → Bool) {xs ys : List ℕ} → ((i : ℕ) (x : Bool) → f i x ≡ g i x) → xs ≡ ys
@@ -120,16 +74,16 @@ module _ (f : ℕ → Bool → Bool) (twice : (i : ℕ) (x : Bool) → f i (f i 
   changed_end cur dst k e = λ t b i. ap (λ (x : Bool). cond x (f i (cur b i)) (cur b i)) (listed_end (has_listed b) dst k e) t
 
   -- k of the buffers are done
-  pub record Changing (area₀ dst area : List ℕ) (k : ℕ) : Type 0 where
+  pub record Changing (area₀ : List Set) (dst : List ℕ) (area : List Set) (k : ℕ) : Type 0 where
     pub turns : k ≤ length dst
     pub kept : length area ≡ length area₀
     pub so : changed f (sources_of area) (drop k dst) ≡ changed f (sources_of area₀) dst
 
-  pub changing_starts : (area dst : List ℕ) → Changing area dst area 0
+  pub changing_starts : (area : List Set) (dst : List ℕ) → Changing area dst area 0
   changing_starts area dst = record { turns = omega arith; kept = refl; so = refl }
 
-  module _ {area₀ dst area : List ℕ} {k : ℕ} (c : Changing area₀ dst area k) where
-    pub changing_on : (next : List ℕ) → k < length dst → length next ≡ length area
+  module _ {area₀ : List Set} {dst : List ℕ} {area : List Set} {k : ℕ} (c : Changing area₀ dst area k) where
+    pub changing_on : (next : List Set) → k < length dst → length next ≡ length area
         → ((b i : ℕ) → sources_of next b i ≡ cond (eqb b (get_or dst k 0)) (f i (sources_of area b i)) (sources_of area b i)) → Changing area₀ dst next (k + 1)
     changing_on next h l e = record { turns = omega arith; kept = l ∙ c.kept; so = changed_turn (sources_of area) (sources_of next) dst h e ∙ c.so }
 
@@ -143,13 +97,12 @@ pub joined_twice : (s : Set) (i : ℕ) (x : Bool) → joined s i (joined s i x) 
 joined_twice s i x = or_assoc x (member s i) (member s i) ∙ ap (λ (b : Bool). x || b) (or_self (member s i))
 
 -- the store of a buffer's own set with another
-pub joined_stored : (area next : List ℕ) (d : ℕ) (s own sum : Set) → own ≡ set_at area d → ((i : ℕ) → member sum i ≡ (member own i || member s i))
-    → ((b i : ℕ) → sources_of next b i ≡ cond (eqb b d) (member sum i) (sources_of area b i)) → (b i : ℕ)
-    → sources_of next b i ≡ cond (eqb b d) (joined s i (sources_of area b i)) (sources_of area b i)
-joined_stored area next d s own sum o u e b i = e b i ∙ go (eqb b d) refl
+pub joined_stored : (area : List Set) (d : ℕ) (s sum : Set) → d < length area → ((i : ℕ) → member sum i ≡ (member (set_at area d) i || member s i))
+    → (b i : ℕ) → sources_of (set area d sum) b i ≡ cond (eqb b d) (joined s i (sources_of area b i)) (sources_of area b i)
+joined_stored area d s sum h u b i = stored_sources area d sum h b i ∙ go (eqb b d) refl
   where
     go : (t : Bool) → eqb b d ≡ t → cond t (member sum i) (sources_of area b i) ≡ cond t (joined s i (sources_of area b i)) (sources_of area b i)
-    go true q = u i ∙ ap (λ (x : Set). member x i || member s i) (o ∙ ap (set_at area) (sym (eqb-true b d q)))
+    go true q = u i ∙ ap (λ (k : ℕ). sources_of area k i || member s i) (sym (eqb-true b d q))
     go false q = refl
 
 -- ---- the union of the sets of a list of buffers, of which k are in it

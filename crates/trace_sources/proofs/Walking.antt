@@ -2,14 +2,12 @@
 use mathlib.Core.Path.{◌≡◌, refl, sym, ap, ◌∙◌, subst}
 use mathlib.Core.Bool.{Bool, true, false, ◌&&◌, ◌||◌, cond, or_assoc, or-false}
 use mathlib.Core.List.{List, [], ◌∷◌, map}
-use mathlib.Core.Logic.{⊎_elim}
+use mathlib.Core.Logic.{◌⊎◌, inl, inr}
 use Prim.Native.Nat.{ℕ, ◌+◌, ◌-◌, ◌≤◌, ◌<◌, max}
 use native.Mathlib.Nat.{sub-zero}
 use native.Mathlib.Omega.{arith}
 use lib.Dec.{eqb}
 use lib.ListN.{length}
-use denote.Enum.Declared.{tag_of}
-use types.Run.{OneOf}
 use Rattle.lists.specs.Entries.{has}
 use Rattle.lists.proofs.Bools.{eqb_swap}
 use Rattle.sets.specs.declared.Set.{Set}
@@ -18,26 +16,21 @@ use Rattle.plan.specs.declared.Plan.{Plan}
 use Rattle.plan.specs.declared.Span.{Span}
 use Rattle.plan.specs.declared.Step.{Step}
 use Rattle.plan.specs.declared.Step.TheVariants.{Patch, Gain, Matrix, Clear, Send, Output}
-use Rattle.plan.specs.declared.Read.TheVariants.{Found, Bad}
 use Rattle.plan.specs.Words.{read_at, decoded_from, decoded}
 use Rattle.plan.specs.Check.{named}
-use Rattle.plan.specs.Sound.{Names, Passes, Tested}
+use Rattle.plan.specs.Limits.{unit_limits}
+use Rattle.plan.specs.Sound.{Passes, Tested}
 use Rattle.plan.specs.Resolved.{resolved, src_of}
 use Rattle.plan.specs.Loops.{slot_of}
 use Rattle.plan.proofs.Answers.{rest_of}
-use Rattle.plan.proofs.Words.{decoded_on, decoded_bad, decoded_none}
-use Rattle.plan.proofs.Accepted.{pass_placed, pass_rest}
-use Rattle.plan.specs.contracts.Step.{the_type}
+use Rattle.plan.proofs.Words.{decoded_on, decoded_none}
+use Rattle.plan.proofs.Accepted.{pass_rest}
 use Rattle.plan.proofs.Named.{slot_named_lem}
 use Rattle.trace.specs.Sources.{union, spread, joins, behind, slot_count}
-use Rattle.trace_sources.specs.Loops.{area_words, slot_words, sources_of, joined, with_slot, Fit, Spans}
+use Rattle.trace_sources.specs.Loops.{slot_sets, sources_of, changed, joined, with_slot, Fit}
+use Rattle.std.specs.Prelude.{Some}
 
--- ---- an Output, and another step, which is told by its tag
-pub no_output : {x : Step} → OneOf (0 ∷ 1 ∷ 2 ∷ 3 ∷ 4 ∷ []) (tag_of the_type x) → (a : Span) (o : ℕ) → x ≡ Output a o → ⊥
-no_output {x} h a o e =
-    ⊎_elim (λ q. omega arith) (⊎_elim (λ q. omega arith) (⊎_elim (λ q. omega arith) (⊎_elim (λ q. omega arith) (λ q. omega arith))))
-    (subst (λ (y : Step). OneOf (0 ∷ 1 ∷ 2 ∷ 3 ∷ 4 ∷ []) (tag_of the_type y)) e h)
-
+-- ---- a step that is no Output
 no_slot : (x : Step) → ((a : Span) (o : ℕ) → x ≡ Output a o → ⊥) → slot_of x ≡ []
 no_slot (Patch n c d) h = refl
 no_slot (Gain n a d) h = refl
@@ -65,16 +58,22 @@ module _ (p : Plan) (indices : List ℕ) (s : ℕ) (sources : ℕ → ℕ → Bo
       go false = sym (or-false own)
 
 -- ---- a step by what was read
-pub fit_as : {p : Plan} {indices area : List ℕ} {x y : Step} → x ≡ y → Fit p indices area x → Fit p indices area y
+pub fit_as : {p : Plan} {indices : List ℕ} {area : List Set} {x y : Step} → x ≡ y → Fit p indices area x → Fit p indices area y
 fit_as {p} {indices} {area} e f = subst (λ (z : Step). Fit p indices area z) e f
 
-pub spans_of : {p : Plan} {indices area : List ℕ} {x : Step} {a d : Span} → Fit p indices area x → Names p indices a → Names p indices d
-    → Spans p indices area a d
-spans_of f h k = record { sources = h; targets = k; room = f.room }
+-- a Gain or a Matrix
+abbrev pub Replaces : Step → Span → Span → Type 0
+Replaces x a d = ((n : ℕ) × x ≡ Gain n a d) ⊎ ((n : ℕ) × x ≡ Matrix n a d)
 
 pub spread_as : (p : Plan) (indices : List ℕ) (sources next : ℕ → ℕ → Bool) {x y : Step} → x ≡ y → next ≡ spread sources (resolved p indices [] y)
     → next ≡ spread sources (resolved p indices [] x)
 spread_as p indices sources next e h = h ∙ ap (λ (z : Step). spread sources (resolved p indices [] z)) (sym e)
+
+pub spread_replaced : (p : Plan) (indices : List ℕ) (sources next : ℕ → ℕ → Bool) {x : Step} (a d : Span) → Replaces x a d
+    → next ≡ changed (λ i own. union sources (named indices a) i) sources (named indices d) → next ≡ spread sources (resolved p indices [] x)
+unfolding spread
+spread_replaced p indices sources next a d (inl e) h = spread_as p indices sources next e.1 h
+spread_replaced p indices sources next a d (inr e) h = spread_as p indices sources next e.1 h
 
 -- ---- the count of slots
 module _ (p : Plan) (indices : List ℕ) where
@@ -89,37 +88,27 @@ module _ (p : Plan) (indices : List ℕ) where
   unfolding slot_count
   none n = omega arith
 
-pub slot_none : (n : ℕ) (x : Step) → ((a : Span) (o : ℕ) → x ≡ Output a o → ⊥) → with_slot n x ≡ n
-slot_none n x h = rw (no_slot x h) (omega arith)
-
-module _ (n : ℕ) {x : Step} (a : Span) (o : ℕ) (e : x ≡ Output a o) where
-  pub slot_low : o < n → n ≡ with_slot n x
-  slot_low h = rw e (omega arith)
-
-  pub slot_high : n ≤ o → o + 1 ≡ with_slot n x
-  slot_high h = rw e (omega arith)
-
 -- ---- between two steps
-module _ (p : Plan) (indices w area₀ slots₀ : List ℕ) where
+module _ (p : Plan) (indices w : List ℕ) (area₀ slots₀ : List Set) where
   abbrev from : ℕ → ℕ → List Step
   from i at = decoded_from w (p.steps - i) at
 
   -- what is in the set of slot s, and what steps join to it
-  abbrev sum : List ℕ → List ℕ → List Step → ℕ → ℕ → Bool
+  abbrev sum : List Set → List Set → List Step → ℕ → ℕ → Bool
   sum area slots ss s j = sources_of slots s j || behind s (sources_of area) (map (resolved p indices []) ss) j
 
   -- i steps are behind: for each slot, the inputs that are in its set, and those that the steps left join from the sets of the buffers, are
   -- those that were in it and those that all steps join from the sets at the start
-  pub record Walking (area slots : List ℕ) (count at i : ℕ) : Type 0 where
+  pub record Walking (area slots : List Set) (count at i : ℕ) : Type 0 where
     pub turns : i ≤ p.steps
     pub plan : Tested p indices w
     pub pass : Passes p indices w (p.steps - i) at
-    pub room : length area ≡ area_words
-    pub slot_room : length slots ≡ slot_words
+    pub room : length area ≡ unit_limits.buffers
+    pub slot_room : length slots ≡ slot_sets
     pub counted : max count (slot_count (map (resolved p indices []) (from i at))) ≡ slot_count (map (resolved p indices []) (decoded w p.steps))
     pub so : (s j : ℕ) → sum area slots (from i at) s j ≡ sum area₀ slots₀ (decoded w p.steps) s j
 
-  pub walking_starts : Tested p indices w → length area₀ ≡ area_words → length slots₀ ≡ slot_words → Walking area₀ slots₀ 0 0 0
+  pub walking_starts : Tested p indices w → length area₀ ≡ unit_limits.buffers → length slots₀ ≡ slot_sets → Walking area₀ slots₀ 0 0 0
   unfolding decoded
   walking_starts c r q =
       record {
@@ -132,12 +121,9 @@ module _ (p : Plan) (indices w area₀ slots₀ : List ℕ) where
         so = λ s j. rw sub-zero;
       }
 
-  module _ {area slots : List ℕ} {count at i : ℕ} (c : Walking area slots count at i) where
-    module _ (h : i < p.steps) {x : Step} {next : ℕ} (r : read_at w at ≡ Found x next) where
-      pub walking_fits : Fit p indices area x
-      walking_fits = record { inside = pass_placed p indices w at (rest_of h) c.pass r; room = record { buffers = c.plan.buffers; words = c.room } }
-
-      pub walking_on : (area' slots' : List ℕ) (count' : ℕ)
+  module _ {area slots : List Set} {count at i : ℕ} (c : Walking area slots count at i) where
+    module _ (h : i < p.steps) {x : Step} {next : ℕ} (r : read_at w at ≡ Some (x, next)) where
+      pub walking_on : (area' slots' : List Set) (count' : ℕ)
           → ((s j : ℕ) → sources_of slots' s j ≡ (sources_of slots s j || joins s (sources_of area) (resolved p indices [] x) j))
           → length slots' ≡ length slots → sources_of area' ≡ spread (sources_of area) (resolved p indices [] x) → length area' ≡ length area
           → count' ≡ with_slot count x → Walking area' slots' count' next (i + 1)
@@ -177,9 +163,6 @@ module _ (p : Plan) (indices w area₀ slots₀ : List ℕ) where
               ∙ c.counted;
           sets = λ s j. sym (or-false (sources_of slots s j)) ∙ ap (λ (ss : List Step). sum area slots ss s j) (sym e) ∙ c.so s j;
         }
-
-    pub walking_bad : i < p.steps → read_at w at ≡ Bad → Walked
-    walking_bad h r = ended (decoded_bad w at (rest_of h) r)
 
     pub walking_ends : p.steps ≤ i → Walked
     walking_ends h = ended (decoded_none w at {left = p.steps - i} (omega arith))

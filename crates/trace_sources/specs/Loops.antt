@@ -1,9 +1,9 @@
--- What the contracts of the walk, and of the calls above it, cite: the source sets of all buffers in an area of words, what a loop over a list of buffers makes
+-- What the contracts of the walk, and of the calls above it, cite: the source sets of all buffers in an area, what a loop over a list of buffers makes
 -- of them, and what the walk takes for granted. Definitions only.
-use Rattle.std.specs.Prelude.{ℕ, ◌+◌, ◌*◌, ◌≤◌, max, ◌≡◌, Bool, ◌||◌, cond, List, length, get_or}
+use Rattle.std.specs.Prelude.{ℕ, ◌≤◌, max, ◌≡◌, Bool, ◌||◌, cond, List, [], length, get_or}
 use Rattle.lists.specs.Entries.{has}
 use Rattle.sets.specs.declared.Set.{Set}
-use Rattle.sets.specs.Sets.{set_words, member, members}
+use Rattle.sets.specs.Sets.{member, members}
 use Rattle.plan.specs.declared.Plan.{Plan}
 use Rattle.plan.specs.declared.Span.{Span}
 use Rattle.plan.specs.declared.Step.{Step}
@@ -12,25 +12,21 @@ use Rattle.plan.specs.Sound.{Names, Placed}
 use Rattle.plan.specs.Loops.{slot_of}
 use Rattle.trace.specs.Sources.{slots_to}
 
--- ---- the areas: the words of a set for each buffer that a plan can have, and for each slot
+-- ---- the areas: a set for each buffer that a plan can have, and one for each slot
 
-abbrev pub area_words : ℕ
-area_words = unit_limits.buffers * set_words
+abbrev pub slot_sets : ℕ
+slot_sets = slots
 
-abbrev pub slot_words : ℕ
-slot_words = slots * set_words
-
-abbrev pub set_at : List ℕ → ℕ → Set
-set_at area b =
-    let k : ℕ = b * set_words in
-    record { w0 = get_or area k 0; w1 = get_or area (k + 1) 0; w2 = get_or area (k + 2) 0; w3 = get_or area (k + 3) 0 }
+-- past the area there is no set, and so no number is in it
+abbrev pub set_at : List Set → ℕ → Set
+set_at area b = get_or area b (record { words = [] })
 
 -- its sets, as the definition of the trace has them: whether input i is in the set of buffer b
-abbrev pub sources_of : List ℕ → ℕ → ℕ → Bool
+abbrev pub sources_of : List Set → ℕ → ℕ → Bool
 sources_of area b i = member (set_at area b) i
 
 -- and the members of one, ascending
-abbrev pub list_at : List ℕ → ℕ → List ℕ
+abbrev pub list_at : List Set → ℕ → List ℕ
 list_at area b = members (set_at area b)
 
 -- ---- loops over a list of buffers: the set of each becomes what f makes of it, input by input
@@ -47,16 +43,16 @@ joined set i own = own || member set i
 -- ---- what the tests said of an accepted plan, and the area of its sets
 
 -- it has a set for each buffer
-pub record SetRoom (p : Plan) (area : List ℕ) : Type 0 where
+pub record SetRoom (p : Plan) (area : List Set) : Type 0 where
   pub buffers : p.buffers ≤ unit_limits.buffers
-  pub words : length area ≡ area_words
+  pub sets : length area ≡ unit_limits.buffers
 
 -- of a step, and of two spans
-pub record Fit (p : Plan) (indices area : List ℕ) (x : Step) : Type 0 where
+pub record Fit (p : Plan) (indices : List ℕ) (area : List Set) (x : Step) : Type 0 where
   pub inside : Placed p indices x
   pub room : SetRoom p area
 
-pub record Spans (p : Plan) (indices area : List ℕ) (src dst : Span) : Type 0 where
+pub record Spans (p : Plan) (indices : List ℕ) (area : List Set) (src dst : Span) : Type 0 where
   pub sources : Names p indices src
   pub targets : Names p indices dst
   pub room : SetRoom p area

@@ -5,5 +5,4 @@
 mod buffer_sets;
 mod walk;
 
-pub use buffer_sets::load;
-pub use walk::{SLOT_WORDS, behind};
+pub use walk::behind;

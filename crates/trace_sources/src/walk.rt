@@ -7,22 +7,17 @@ ghost use Rattle.plan.specs.Check.{named};
 ghost use Rattle.plan.specs.Sound.{Names, Tested};
 ghost use Rattle.plan.specs.Resolved.{resolved};
 ghost use Rattle.trace.specs.Sources.{no_sources, union, spread, joins, behind, slot_count};
-ghost use Rattle.trace_sources.specs.Loops.{area_words, slot_words, sources_of, changed, with_slot, SetRoom, Fit, Spans};
+ghost use Rattle.trace_sources.specs.Loops.{slot_sets, sources_of, changed, with_slot, SetRoom, Fit, Spans};
 
-use crate::buffer_sets::{add, give, load, store, union_of};
-use plan::{Plan, Read, Span, Step};
+use crate::buffer_sets::{add, give, union_of};
+use plan::{Plan, Span, Step};
 use sets::Set;
-
-// The words of the sets of all buffers, and of all slots.
-const AREA_WORDS: usize = Plan::MAX_BUFFERS * Set::WORDS;
-
-pub const SLOT_WORDS: usize = Step::SLOTS as usize * Set::WORDS;
 
 // The count of slots, where a step comes to those before it.
 fn with_slot(count: usize, step: Step) -> usize
     ensures { result ≡ with_slot count step }
 {
-    let Step::Output { src: _, slot } = step else {
+    let Step::Output { slot, .. } = step else {
         return count;
     };
     let named = slot as usize;
@@ -33,23 +28,23 @@ fn with_slot(count: usize, step: Step) -> usize
 }
 
 // The inputs behind the buffers of a span. Requires a span that names buffers, and a set for each buffer of the plan.
-fn behind_span(plan: Plan, indices: &[u32], area: &[u64], src: Span) -> Set
+fn behind_span(plan: Plan, indices: &[u32], area: &[Set], src: Span) -> Set
     requires { Names plan indices.now src × SetRoom plan area.now }
     ensures { (i : ℕ) → member result i ≡ union (sources_of area.now) (named indices.now src) i }
 {
     union_of(area, plan_steps::numbers(indices, src))
 }
 
-// Patch. Requires an input and a buffer of a plan, and the words of all buffers.
-fn patch(area: &mut [u64], input: u32, dst: u32)
-    requires { (input < inputs) × (dst < unit_limits.buffers) × (length area.old ≡ area_words) }
+// Patch. Requires an input and a buffer of a plan, and a set for each buffer that a plan can have.
+fn patch(area: &mut [Set], input: u32, dst: u32)
+    requires { (input < inputs) × (dst < unit_limits.buffers) × (length area.old ≡ unit_limits.buffers) }
     ensures { (b i : ℕ) → sources_of area.new b i ≡ cond (eqb b dst) (eqb i input) (sources_of area.old b i) }
 {
-    store(area, dst, Set::empty().with(input));
+    area[dst as usize] = Set::empty().with(input);
 }
 
 // Gain and Matrix. Requires two spans that name buffers, and a set for each buffer of the plan.
-fn replace(plan: Plan, indices: &[u32], area: &mut [u64], src: Span, dst: Span)
+fn replace(plan: Plan, indices: &[u32], area: &mut [Set], src: Span, dst: Span)
     requires { Spans plan indices.now area.old src dst }
     ensures { sources_of area.new ≡ changed (λ i own. union (sources_of area.old) (named indices.now src) i) (sources_of area.old) (named indices.now dst) }
 {
@@ -58,7 +53,7 @@ fn replace(plan: Plan, indices: &[u32], area: &mut [u64], src: Span, dst: Span)
 }
 
 // Clear. Requires as `behind_span`.
-fn clear(plan: Plan, indices: &[u32], area: &mut [u64], dst: Span)
+fn clear(plan: Plan, indices: &[u32], area: &mut [Set], dst: Span)
     requires { Names plan indices.now dst × SetRoom plan area.old }
     ensures { sources_of area.new ≡ changed (λ i own. false) (sources_of area.old) (named indices.now dst) }
 {
@@ -66,7 +61,7 @@ fn clear(plan: Plan, indices: &[u32], area: &mut [u64], dst: Span)
 }
 
 // Send. Requires as `replace`.
-fn send(plan: Plan, indices: &[u32], area: &mut [u64], src: Span, dst: Span)
+fn send(plan: Plan, indices: &[u32], area: &mut [Set], src: Span, dst: Span)
     requires { Spans plan indices.now area.old src dst }
     ensures { sources_of area.new ≡ changed (λ i own. own || union (sources_of area.old) (named indices.now src) i) (sources_of area.old) (named indices.now dst) }
 {
@@ -75,47 +70,38 @@ fn send(plan: Plan, indices: &[u32], area: &mut [u64], src: Span, dst: Span)
 }
 
 // The sets after a step. Requires what the tests said of the plan and of it, and a set for each buffer of the plan.
-fn spread(plan: Plan, indices: &[u32], area: &mut [u64], step: Step)
+fn spread(plan: Plan, indices: &[u32], area: &mut [Set], step: Step)
     requires { Fit plan indices.now area.old step }
     ensures { sources_of area.new ≡ spread (sources_of area.old) (resolved plan indices.now [] step) }
 {
     match step {
-        Step::Patch {
-            input,
-            channel: _,
-            dst,
-        } => patch(area, input, dst),
-        Step::Gain { node: _, src, dst } => replace(plan, indices, area, src, dst),
-        Step::Matrix { node: _, src, dst } => replace(plan, indices, area, src, dst),
+        Step::Patch { input, dst, .. } => patch(area, input, dst),
+        Step::Gain { src, dst, .. } | Step::Matrix { src, dst, .. } => replace(
+            plan, indices, area, src, dst,
+        ),
         Step::Clear { dst } => clear(plan, indices, area, dst),
-        Step::Send {
-            node: _,
-            src,
-            dst,
-            coefficients: _,
-        } => send(plan, indices, area, src, dst),
-        Step::Output { src: _, slot: _ } => {}
+        Step::Send { src, dst, .. } => send(plan, indices, area, src, dst),
+        Step::Output { .. } => {}
     }
 }
 
-// The sets of the slots, with the inputs that a step joins to one. Requires as `spread`, and the words of all slots.
-fn join(plan: Plan, indices: &[u32], area: &[u64], slots: &mut [u64], step: Step)
-    requires { Fit plan indices.now area.now step × (length slots.old ≡ slot_words) }
+// The sets of the slots, with the inputs that a step joins to one. Requires as `spread`, and a set for each slot.
+fn join(plan: Plan, indices: &[u32], area: &[Set], slots: &mut [Set], step: Step)
+    requires { Fit plan indices.now area.now step × (length slots.old ≡ slot_sets) }
     ensures { (s i : ℕ) → sources_of slots.new s i ≡ (sources_of slots.old s i || joins s (sources_of area.now) (resolved plan indices.now [] step) i) }
 {
     let Step::Output { src, slot } = step else {
         return;
     };
-    let own = load(&slots[..], slot);
-    let set = own.union(behind_span(plan, indices, area, src));
-    store(slots, slot, set);
+    let own = slots[slot as usize];
+    slots[slot as usize] = own.union(behind_span(plan, indices, area, src));
 }
 
 // The sets of the slots after all steps, from those that both areas hold, which change step by step; and the count of the slots. What the sets of
-// the buffers are then is left open: nothing reads them. Requires what the tests said of the plan and its steps, and the words of all buffers and
-// of all slots.
-fn walk(plan: Plan, indices: &[u32], steps: &[u32], area: &mut [u64], slots: &mut [u64]) -> usize
-    requires { Tested plan indices.now steps.now × (length area.old ≡ area_words) × (length slots.old ≡ slot_words) }
+// the buffers are then is left open: nothing reads them. Requires what the tests said of the plan and its steps, and a set for each buffer that a
+// plan can have and for each slot.
+fn walk(plan: Plan, indices: &[u32], steps: &[u32], area: &mut [Set], slots: &mut [Set]) -> usize
+    requires { Tested plan indices.now steps.now × (length area.old ≡ unit_limits.buffers) × (length slots.old ≡ slot_sets) }
     ensures count { result ≡ slot_count (map (resolved plan indices.now []) (decoded steps.now plan.steps)) }
     ensures sets { (s i : ℕ) → sources_of slots.new s i ≡ (sources_of slots.old s i || behind s (sources_of area.old) (map (resolved plan indices.now []) (decoded steps.now plan.steps)) i) }
 {
@@ -123,7 +109,7 @@ fn walk(plan: Plan, indices: &[u32], steps: &[u32], area: &mut [u64], slots: &mu
     let mut count = 0;
     let mut at = 0;
     for i in 0..n {
-        let Read::Found(step, next) = plan_reader::read_step(steps, at) else {
+        let Some((step, next)) = plan_reader::read_step(steps, at) else {
             return count;
         };
         join(plan, indices, &area[..], slots, step);
@@ -134,13 +120,13 @@ fn walk(plan: Plan, indices: &[u32], steps: &[u32], area: &mut [u64], slots: &mu
     count
 }
 
-// The inputs behind each slot, added to its set, and the count of the slots. Requires what the tests said of the plan and its steps, and the
-// words of all slots.
-pub fn behind(plan: Plan, indices: &[u32], steps: &[u32], slots: &mut [u64]) -> usize
-    requires { Tested plan indices.now steps.now × (length slots.old ≡ slot_words) }
+// The inputs behind each slot, added to its set, and the count of the slots. Requires what the tests said of the plan and its steps, and a
+// set for each slot.
+pub fn behind(plan: Plan, indices: &[u32], steps: &[u32], slots: &mut [Set]) -> usize
+    requires { Tested plan indices.now steps.now × (length slots.old ≡ slot_sets) }
     ensures count { result ≡ slot_count (map (resolved plan indices.now []) (decoded steps.now plan.steps)) }
     ensures sets { (s i : ℕ) → sources_of slots.new s i ≡ (sources_of slots.old s i || behind s no_sources (map (resolved plan indices.now []) (decoded steps.now plan.steps)) i) }
 {
-    let mut area = [0u64; AREA_WORDS];
+    let mut area = [Set::empty(); Plan::MAX_BUFFERS];
     walk(plan, indices, steps, &mut area, slots)
 }

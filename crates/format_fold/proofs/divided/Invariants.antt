@@ -1,12 +1,8 @@
--- `format_fold::divided` meets its contract: the loop's invariant: the first i entries are divided. Assumes nothing.
-use Rattle.lists.proofs.Filled.{filled}
+-- `format_fold::divided` meets its contract: the loop's invariant: the entries so far are divided. Assumes nothing.
 use mathlib.Core.Path.{◌≡◌}
-use Prim.Native.Nat.{◌-◌, ◌≤◌}
 use lib.Ieee.{Float, binary64, div}
+use Rattle.lists.proofs.Filled.{filled}
 use Rattle.format_fold.proofs.divided.Given as goal
 
-abbrev pub invariant-loop-i : goal.invariant-loop-i
-invariant-loop-i l = (l.i ≤ 144) × (l.m.entries ≡ filled (λ (x : Float). div binary64 x l.by) l.initial.m.entries l.i l.initial.m.entries)
-
-abbrev pub decreases-loop-i : goal.decreases-loop-i
-decreases-loop-i l = 144 - l.i
+abbrev pub invariant-loop-x : goal.invariant-loop-x
+invariant-loop-x l = l.x-items ≡ filled (λ (x : Float). div binary64 x l.by) l.initial.x-items l.x-index l.initial.x-items

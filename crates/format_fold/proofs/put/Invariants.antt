@@ -1,13 +1,8 @@
 -- `format_fold::put` meets its contract: the loop's invariant: the first i places hold the first i entries, rounded. Assumes nothing.
 use mathlib.Core.Path.{◌≡◌}
-use Prim.Native.Nat.{◌-◌, ◌≤◌}
-use lib.ListN.{take}
 use Rattle.lists.proofs.Filled.{filled}
 use Rattle.rounding.specs.Narrow.{narrowed}
 use Rattle.format_fold.proofs.put.Given as goal
 
 abbrev pub invariant-loop-i : goal.invariant-loop-i
-invariant-loop-i l = (l.i ≤ l.n) × (l.out ≡ filled narrowed (take l.n l.m.entries) l.i l.initial.out)
-
-abbrev pub decreases-loop-i : goal.decreases-loop-i
-decreases-loop-i l = l.n - l.i
+invariant-loop-i l = l.out ≡ filled narrowed l.entries l.i l.initial.out

@@ -1,27 +1,28 @@
 -- `format_fold::width_answer` meets its contract: each way out is one of `Answers`. Assumes nothing.
-use mathlib.Core.Path.{◌≡◌, sym, ◌∙◌}
+use mathlib.Core.Path.{◌≡◌, sym, ap, ◌∙◌}
 use Prim.Native.Nat.{◌*◌, ◌<◌, ◌≤◌}
 use native.Mathlib.Omega.{arith}
 use Rattle.format.specs.Formats.{channels}
 use Rattle.format_fold.proofs.Rows.{size}
 use Rattle.format_fold.proofs.Answers.{width_src, width_dst, width_17, width_2, width_accepted}
+use Rattle.std.specs.Prelude.{Err}
 use Rattle.format_fold.proofs.width_answer.Goals as goal
 
 pub returns-then-src-ge-COUNT : goal.returns-then-src-ge-COUNT
 returns-then-src-ge-COUNT c =
     let a = c.args in
-    c.refused.ensures ∙ sym (width_src a.src a.dst a.gains a.n c.if-src-ge-COUNT.true)
+    ap Err c.into.ensures ∙ sym (width_src a.src a.dst a.gains a.n c.if-src-ge-COUNT.true)
 
 pub returns-then-dst-ge-COUNT : goal.returns-then-dst-ge-COUNT
 returns-then-dst-ge-COUNT c =
     let a = c.args in
-    c.refused-then-dst-ge-COUNT.ensures ∙ sym (width_dst a.src a.dst a.gains a.n c.if-src-ge-COUNT.false c.if-dst-ge-COUNT.true)
+    ap Err c.into-then-dst-ge-COUNT.ensures ∙ sym (width_dst a.src a.dst a.gains a.n c.if-src-ge-COUNT.false c.if-dst-ge-COUNT.true)
 
 pub returns-then-not-gains_in_range : goal.returns-then-not-gains_in_range
 returns-then-not-gains_in_range c =
     let a = c.args in
     let g = sym c.gains_in_range.ensures ∙ c.if-not-gains_in_range.true in
-    c.refused-then-not-gains_in_range.ensures ∙ sym (width_17 a.src a.dst a.gains a.n c.if-src-ge-COUNT.false c.if-dst-ge-COUNT.false g)
+    ap Err c.into-then-not-gains_in_range.ensures ∙ sym (width_17 a.src a.dst a.gains a.n c.if-src-ge-COUNT.false c.if-dst-ge-COUNT.false g)
 
 pub overflow_mul-channels : goal.overflow_mul-channels
 overflow_mul-channels c =
@@ -34,7 +35,7 @@ returns-then-n-channels c =
     let g = sym c.gains_in_range.ensures ∙ c.if-not-gains_in_range.false in
     let e : c.channels.result * c.channels-2.result ≡ channels a.dst * channels a.src = cc (c.channels.ensures, c.channels-2.ensures) in
     let l : a.n < channels a.dst * channels a.src = omega (arith, e, c.if-n-channels.true) in
-    c.refused-then-n-channels.ensures ∙ sym (width_2 a.src a.dst a.gains a.n c.if-src-ge-COUNT.false c.if-dst-ge-COUNT.false g l)
+    ap Err c.into-then-n-channels.ensures ∙ sym (width_2 a.src a.dst a.gains a.n c.if-src-ge-COUNT.false c.if-dst-ge-COUNT.false g l)
 
 pub returns : goal.returns
 returns c =

@@ -7,7 +7,6 @@ use lib.ListN.{length, drop}
 use lib.Seq.{sets}
 use lib.Ieee.{Float}
 use Rattle.lists.proofs.Stores.{sets_front}
-use Rattle.refusal.specs.declared.Answer.TheVariants.{Accepted}
 use Rattle.format.specs.Formats.{channels}
 use Rattle.format_fold.specs.Width.{width_answer}
 use Rattle.format_fold.proofs.Answers.{fitting}
@@ -18,36 +17,37 @@ use Rattle.format_table.proofs.Tables.{entry_length}
 use Rattle.format_table.proofs.Exact.{table_sound}
 use Rattle.format_table.proofs.With.{own_refused, own_accepted, with_refused, table_decides, table_leaves}
 use Rattle.format_table.proofs.width_matrix_with.Goals as goal
+use Rattle.std.specs.Prelude.{Ok, Err}
+use Rattle.std.proofs.lemmas.Result.{err_from_is_err_and}
 
 -- the entry at the front of the area
 front : (l vs : List Float) (n : ℕ) → length vs ≡ n → n ≤ length l → sets l 0 vs ≡ vs ++ drop n l
 front l vs n e h = sets_front l vs (omega arith) ∙ ap (λ (k : ℕ). vs ++ drop k l) e
 
-pub returns-in_default : goal.returns-in_default
-returns-in_default c =
+pub returns-in_err-width_answer : goal.returns-in_err-width_answer
+returns-in_err-width_answer c =
     let a = c.args in
-    let e = c.in_default.is in
-    let r = own_refused a.src a.dst a.gains (length a.out.now) a.pairs.now a.table_gains.now _ (sym c.width_answer-own.ensures ∙ e) in record {
-      answer = e ∙ sym r;
+    let p = err_from_is_err_and c.from_residual.result c.from_residual.ensures.1 in
+    let r = own_refused a.src a.dst a.gains (length a.out.now) a.pairs.now a.table_gains.now _ (sym c.width_answer.ensures ∙ c.in_err-width_answer.was) in record {
+      answer = p.1 ∙ ap Err p.2 ∙ sym r;
       out = sym (with_refused a.src a.dst a.gains a.normalise a.pairs.now a.table_gains.now a.out.now _ r);
     }
 
-pub returns-in_default-answer : goal.returns-in_default-answer
-returns-in_default-answer c =
-    -- where both answers are accepted
-    let own : width_answer c.args.src c.args.dst c.args.gains (length c.args.out.now) ≡ Accepted = sym c.width_answer-own.ensures ∙ c.in-Accepted.is in
+pub returns-in_err-table_answer : goal.returns-in_err-table_answer
+returns-in_err-table_answer c =
     let a = c.args in
-    let e = c.in_default-answer.is in
-    let r = own_accepted a.src a.dst a.gains (length a.out.now) a.pairs.now a.table_gains.now (own) ∙ sym c.table_answer-answer.ensures ∙ e in record {
-      answer = e ∙ sym r;
+    let p = err_from_is_err_and c.from_residual-in_err-table_answer.result c.from_residual-in_err-table_answer.ensures.1 in
+    let own = sym c.width_answer.ensures ∙ c.in_ok-width_answer.was in
+    let r = own_accepted a.src a.dst a.gains (length a.out.now) a.pairs.now a.table_gains.now own ∙ sym c.table_answer.ensures ∙ c.in_err-table_answer.was in record {
+      answer = p.1 ∙ ap Err p.2 ∙ sym r;
       out = sym (with_refused a.src a.dst a.gains a.normalise a.pairs.now a.table_gains.now a.out.now _ r);
     }
 
 pub find_entry-entry-requires : goal.find_entry-entry-requires
 find_entry-entry-requires c =
-    let own : width_answer c.args.src c.args.dst c.args.gains (length c.args.out.now) ≡ Accepted = sym c.width_answer-own.ensures ∙ c.in-Accepted.is in
+    let own : width_answer c.args.src c.args.dst c.args.gains (length c.args.out.now) ≡ Ok tt = sym c.width_answer.ensures ∙ c.in_ok-width_answer.was in
     let sound : TableSound c.args.pairs.now c.args.table_gains.now = let a = c.args in
-    table_sound a.pairs.now a.table_gains.now (sym c.table_answer-answer.ensures ∙ c.in-Accepted-answer.is) in
+    table_sound a.pairs.now a.table_gains.now (sym c.table_answer.ensures ∙ c.in_ok-table_answer.was) in
     -- where the table covers the pair
     let covered : times c.args.pairs.now c.args.src c.args.dst (entries c.args.pairs.now) ≡ 1 = let a = c.args in
     let f = fitting a.src a.dst a.gains (length a.out.now) (own) in
@@ -56,9 +56,9 @@ find_entry-entry-requires c =
 
 pub put_floats-requires : goal.put_floats-requires
 put_floats-requires c =
-    let own : width_answer c.args.src c.args.dst c.args.gains (length c.args.out.now) ≡ Accepted = sym c.width_answer-own.ensures ∙ c.in-Accepted.is in
+    let own : width_answer c.args.src c.args.dst c.args.gains (length c.args.out.now) ≡ Ok tt = sym c.width_answer.ensures ∙ c.in_ok-width_answer.was in
     let sound : TableSound c.args.pairs.now c.args.table_gains.now = let a = c.args in
-    table_sound a.pairs.now a.table_gains.now (sym c.table_answer-answer.ensures ∙ c.in-Accepted-answer.is) in
+    table_sound a.pairs.now a.table_gains.now (sym c.table_answer.ensures ∙ c.in_ok-table_answer.was) in
     let covered : times c.args.pairs.now c.args.src c.args.dst (entries c.args.pairs.now) ≡ 1 = let a = c.args in
     let f = fitting a.src a.dst a.gains (length a.out.now) (own) in
     (sound).covered a.src a.dst f.source f.destination (sym c.applies.ensures ∙ c.if-applies.true) in
@@ -70,11 +70,11 @@ put_floats-requires c =
 
 pub returns-then-applies : goal.returns-then-applies
 returns-then-applies c =
-    let own : width_answer c.args.src c.args.dst c.args.gains (length c.args.out.now) ≡ Accepted = sym c.width_answer-own.ensures ∙ c.in-Accepted.is in
-    let accepted : with_answer c.args.src c.args.dst c.args.gains (length c.args.out.now) c.args.pairs.now c.args.table_gains.now ≡ Accepted = let a = c.args in
-    own_accepted a.src a.dst a.gains (length a.out.now) a.pairs.now a.table_gains.now (own) ∙ sym c.table_answer-answer.ensures ∙ c.in-Accepted-answer.is in
+    let own : width_answer c.args.src c.args.dst c.args.gains (length c.args.out.now) ≡ Ok tt = sym c.width_answer.ensures ∙ c.in_ok-width_answer.was in
+    let accepted : with_answer c.args.src c.args.dst c.args.gains (length c.args.out.now) c.args.pairs.now c.args.table_gains.now ≡ Ok tt = let a = c.args in
+    own_accepted a.src a.dst a.gains (length a.out.now) a.pairs.now a.table_gains.now (own) ∙ sym c.table_answer.ensures ∙ c.in_ok-table_answer.was in
     let sound : TableSound c.args.pairs.now c.args.table_gains.now = let a = c.args in
-    table_sound a.pairs.now a.table_gains.now (sym c.table_answer-answer.ensures ∙ c.in-Accepted-answer.is) in
+    table_sound a.pairs.now a.table_gains.now (sym c.table_answer.ensures ∙ c.in_ok-table_answer.was) in
     let covered : times c.args.pairs.now c.args.src c.args.dst (entries c.args.pairs.now) ≡ 1 = let a = c.args in
     let f = fitting a.src a.dst a.gains (length a.out.now) (own) in
     (sound).covered a.src a.dst f.source f.destination (sym c.applies.ensures ∙ c.if-applies.true) in
@@ -94,9 +94,9 @@ returns-then-applies c =
 
 pub returns : goal.returns
 returns c =
-    let own : width_answer c.args.src c.args.dst c.args.gains (length c.args.out.now) ≡ Accepted = sym c.width_answer-own.ensures ∙ c.in-Accepted.is in
-    let accepted : with_answer c.args.src c.args.dst c.args.gains (length c.args.out.now) c.args.pairs.now c.args.table_gains.now ≡ Accepted = let a = c.args in
-    own_accepted a.src a.dst a.gains (length a.out.now) a.pairs.now a.table_gains.now (own) ∙ sym c.table_answer-answer.ensures ∙ c.in-Accepted-answer.is in
+    let own : width_answer c.args.src c.args.dst c.args.gains (length c.args.out.now) ≡ Ok tt = sym c.width_answer.ensures ∙ c.in_ok-width_answer.was in
+    let accepted : with_answer c.args.src c.args.dst c.args.gains (length c.args.out.now) c.args.pairs.now c.args.table_gains.now ≡ Ok tt = let a = c.args in
+    own_accepted a.src a.dst a.gains (length a.out.now) a.pairs.now a.table_gains.now (own) ∙ sym c.table_answer.ensures ∙ c.in_ok-table_answer.was in
     let a = c.args in
     let r = accepted in
     let y = sym c.applies.ensures ∙ c.if-applies.false in record {

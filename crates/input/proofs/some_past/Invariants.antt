@@ -1,11 +1,7 @@
--- `input::some_past` meets its contract. Assumes nothing.
+-- `input::some_past` meets its contract: no entry from i on has a part past the samples. Assumes nothing.
 use mathlib.Core.Path.{◌≡◌}
-use Prim.Native.Nat.{◌≤◌}
 use Rattle.input.specs.Input.{some_past}
 use Rattle.input.proofs.some_past.Given as goal
 
 abbrev pub invariant-loop-i : goal.invariant-loop-i
-invariant-loop-i l = (l.i ≤ l.n) × (some_past l.directory l.m l.n ≡ some_past l.directory l.m l.i)
-
-abbrev pub decreases-loop-i : goal.decreases-loop-i
-decreases-loop-i l = l.i
+invariant-loop-i l = some_past l.directory l.m l.n ≡ some_past l.directory l.m l.i

@@ -1,31 +1,20 @@
-use Prim.Native.Nat.{◌<◌}
-use mathlib.Core.Path.{refl}
+-- `lists::put_floats` meets its contract: what was copied over a part is a run of stores from the part's first place on. Assumes nothing.
+use Prim.Native.Nat.{ℕ, ◌+◌, ◌-◌, ◌≤◌}
+use mathlib.Core.Path.{◌≡◌, sym, ap, ◌∙◌}
+use mathlib.Core.List.{List, ◌++◌, append_assoc}
 use native.Mathlib.Omega.{arith}
-use lib.ListN.{length}
-use lib.Ieee.{nan}
-use Rattle.lists.proofs.Stores.{stores_turn, stores_length, stores_all}
+use lib.ListN.{length, take, drop}
+use lib.Seq.{sets, sets-eq, drop-drop}
 use Rattle.lists.proofs.put_floats.Goals as goal
 
-pub loop-i-init : goal.loop-i-init
-loop-i-init c = (omega arith, refl)
-
-pub bounds-area-at : goal.bounds-area-at
-bounds-area-at c =
-    let a = c.args in
-    omega (arith, stores_length a.area.now a.values.now a.at c.loop-i.i c.loop-i.invariant.1)
-
-pub loop-i-preserved : goal.loop-i-preserved
-loop-i-preserved c =
-    let a = c.args in
-    let k : c.loop-i.i < length a.values.now = omega arith in
-    (omega arith, stores_turn a.area.now a.values.now a.at c.loop-i.i nan c.loop-i.invariant.1 k refl)
-
-pub shape_of-area : goal.shape_of-area
-shape_of-area c =
-    let a = c.args in
-    stores_length a.area.now a.values.now a.at c.loop-i.i c.loop-i.invariant.1
+copied : {A : Type 0} (l xs vs : List A) (k n : ℕ) → xs ≡ vs → n ≡ length vs → k + length vs ≤ length l → take k l ++ (xs ++ drop n (drop k l)) ≡ sets l k vs
+copied l xs vs k n e m h =
+    ap (λ ys. take k l ++ (ys ++ drop n (drop k l))) e
+    ∙ ap (λ j. take k l ++ (vs ++ drop j (drop k l))) m
+    ∙ ap (λ ys. take k l ++ (vs ++ ys)) (drop-drop (length vs) k l)
+    ∙ sym (sets-eq vs l k h ∙ append_assoc (take k l) vs (drop (k + length vs) l))
 
 pub returns : goal.returns
 returns c =
-    let a = c.args in
-    stores_all a.area.now a.values.now a.at c.loop-i.i c.loop-i.invariant.1 (omega arith)
+    let n : c.args.at + length c.args.values.now - c.args.at ≡ length c.args.values.now = omega arith in
+    copied c.args.area.now _ c.args.values.now c.args.at _ c.copy_from_slice.ensures.after n (omega arith)

@@ -1,7 +1,7 @@
 -- `mix_matrix::add_part` meets its contract: a gain at rest equal to 0 adds nothing, and any other adds the part. Assumes nothing.
-use mathlib.Core.Path.{sym, ap, ◌∙◌}
+use mathlib.Core.Path.{refl, sym, ◌∙◌}
 use lib.ListN.{get_or}
-use lib.Ieee.{Float, nan, binary32, add, mul}
+use lib.Ieee.{nan}
 use borrow.Author.Rules.{rules}
 use Prim.Native.Nat.{◌+◌}
 use Rattle.mix.specs.Loops.{plus_scaled}
@@ -12,19 +12,19 @@ use Rattle.mix_matrix.proofs.add_part.Goals as goal
 pub returns-then-is_silent : goal.returns-then-is_silent
 returns-then-is_silent c =
     let a = c.args in record {
-      t_len = search rules;
-      by_index = λ i h. not_added a.g (a.j + i) (get_or a.area.now (a.p + i) nan) (get_or a.t.now i nan) (sym c.is_silent.ensures ∙ c.if-is_silent.true);
+      local = search rules;
+      added = λ i h. not_added a.g (a.j + i) (get_or a.area.now (a.p + i) nan) (get_or a.t.now i nan) (sym c.is_silent.ensures ∙ c.if-is_silent.true);
     }
 
 pub returns : goal.returns
 returns c =
     let a = c.args in
-    let g = c.later in record {
-      t_len = search rules;
-      by_index = λ i h.
-          part_mixed (plus_scaled a.g) (plus_scaled g.result) a.j a.p a.m a.area.now a.t.now (search rules) (search rules)
-          (λ i h x y. ap (λ (v : Float). add binary32 y (mul binary32 x v)) (g.ensures i h))
-          c.add_samples.ensures.y_after
+    let f = plus_scaled a.g in record {
+      local = search rules;
+      added = λ i h.
+          part_mixed f f a.j a.p a.m a.area.now a.t.now (search rules) (search rules)
+          (λ i h x y. refl)
+          c.mix_samples.ensures.mixed
           i
           h
           ∙ is_added a.g (a.j + i) (get_or a.area.now (a.p + i) nan) (get_or a.t.now i nan) (sym c.is_silent.ensures ∙ c.if-is_silent.false);

@@ -1,4 +1,4 @@
--- `mix_matrix::matrix_row` meets its contract: two columns by the contract of `sum_two`, all others by that of `sum_row`. Assumes nothing.
+-- `mix_matrix::matrix_row` meets its contract: two columns by the contract of `two_into`, all others by that of `sum_row`. Assumes nothing.
 use mathlib.Core.Path.{◌≡◌, refl}
 use Prim.Native.Nat.{◌+◌}
 use native.Mathlib.Numerals.{add-one}
@@ -8,37 +8,37 @@ use lib.Ieee.{nan, eq, ne}
 use borrow.Author.Tests.{eq-eqb}
 use Rattle.lists.proofs.Bools.{first_not, second_not}
 use Rattle.node.specs.declared.Gain.TheVariants.{Rest}
-use Rattle.node.specs.Nodes.{gain_at}
+use Rattle.node.specs.Rows.{gain_in}
 use Rattle.mix.specs.Mix.{is_zero}
 use Rattle.mix.proofs.Given.{pair_of}
 use Rattle.mix.proofs.Rows.{two_summed}
 use Rattle.mix_matrix.proofs.matrix_row.Goals as goal
 
-pub overflow_cast-src : goal.overflow_cast-src
-overflow_cast-src c = omega (arith, c.type_inv.src 0)
+pub overflow_cast-s : goal.overflow_cast-s
+overflow_cast-s c = omega (arith, c.type_inv.src 0)
 
-pub overflow_cast-src-then-a-b : goal.overflow_cast-src-then-a-b
-overflow_cast-src-then-a-b c = omega (arith, c.type_inv.src 1)
+pub overflow_cast-z : goal.overflow_cast-z
+overflow_cast-z c = omega (arith, c.type_inv.src 1)
 
-pub sum_two-requires : goal.sum_two-requires
-sum_two-requires c =
+pub two_into-requires : goal.two_into-requires
+two_into-requires c =
     let p = c.requires in
     let n = c.if-src-eq2.true in record {
-      pair = pair_of refl p.row 0 (omega arith);
-      pair_2 = pair_of refl p.row 1 (omega arith);
+      s = pair_of refl p.row 0 (omega arith);
+      z = pair_of refl p.row 1 (omega arith);
     }
 
 pub returns-then-a-b : goal.returns-then-a-b
 unfolding eq ne
 returns-then-a-b c =
     let a = c.args in
-    let z : a.left ≡ 0 = c.if-left-eq0.true in
-    let x = get_or a.target.now a.v nan in
-    let y = get_or a.target.now (a.v + 1) nan in
+    let z : a.node.left ≡ 0 = c.if-node-eq0.true in
+    let x = get_or a.node.target.now a.v nan in
+    let y = get_or a.node.target.now (a.v + 1) nan in
     let b = c.if-a-b.true in
-    two_summed a.block (gain_at a.cur.now a.step.now a.target.now a.left) a.v a.src.now a.d a.area.now (Rest x) (Rest y) c.if-src-eq2.true c.requires.row
+    two_summed a.block (gain_in a.node) a.v a.src.now a.d a.area.now (Rest x) (Rest y) c.if-src-eq2.true c.requires.row
     (simp (eq-eqb _ _ z))
     (rw (add-one a.v) (simp (eq-eqb _ _ z)))
     (first_not (is_zero x) (is_zero y) b)
     (second_not (is_zero x) (is_zero y) b)
-    c.sum_two.ensures
+    c.two_into.ensures

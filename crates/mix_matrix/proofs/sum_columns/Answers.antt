@@ -1,25 +1,26 @@
 use native.Mathlib.Omega.{arith}
 use borrow.Author.Rules.{rules}
-use Rattle.node.specs.Nodes.{gain_at}
+use Rattle.node.specs.Rows.{gain_in}
 use Rattle.mix.proofs.Rows.{columns_left, column_done, columns_done}
 use Rattle.mix_matrix.proofs.sum_columns.Goals as goal
 
 pub loop-c-init : goal.loop-c-init
-loop-c-init c = let a = c.args in (search rules, search rules, columns_left a.block (gain_at a.cur.now a.step.now a.target.now a.left) a.v a.src.now a.area.now a.j a.m a.t.now)
+loop-c-init c = let a = c.args in (search rules, search rules, columns_left a.block (gain_in a.node) a.v a.src.now a.area.now a.j a.m a.t.now)
 
 pub overflow_cast-s : goal.overflow_cast-s
 overflow_cast-s c = omega (arith, c.type_inv.src c.loop-c.c)
 
 pub overflow_mul-s : goal.overflow_mul-s
-overflow_mul-s c = omega (arith, c.requires.all_inside c.loop-c.c c.loop-c-test.true)
+overflow_mul-s c = omega (arith, c.requires.sources c.loop-c.c c.loop-c-test.true)
 
 pub overflow_add-s : goal.overflow_add-s
-overflow_add-s c = omega (arith, c.requires.all_inside c.loop-c.c c.loop-c-test.true)
+overflow_add-s c = omega (arith, c.requires.sources c.loop-c.c c.loop-c-test.true)
 
 pub add_part-requires : goal.add_part-requires
 add_part-requires c = record {
-  m_in_bounds = (omega (arith, c.requires.all_inside c.loop-c.c c.loop-c-test.true), search rules);
-  m_bound = (search rules, search rules);
+  part = (omega (arith, c.requires.sources c.loop-c.c c.loop-c-test.true), search rules);
+  small = search rules;
+  local = search rules;
 }
 
 pub loop-c-preserved : goal.loop-c-preserved
@@ -27,14 +28,14 @@ loop-c-preserved c =
     let a = c.args in
     let l = c.loop-c in (
       search rules,
-      c.add_part.ensures.t_len,
-      column_done a.block (gain_at a.cur.now a.step.now a.target.now a.left) a.v a.src.now a.area.now a.j a.m a.t.now l.c _ l.t _ (search rules) c.of-g.ensures l.invariant.2 c.add_part.ensures.by_index,
+      c.add_part.ensures.local,
+      column_done a.block (gain_in a.node) a.v a.src.now a.area.now a.j a.m a.t.now l.c _ l.t _ (search rules) c.gain-g.ensures l.invariant.2 c.add_part.ensures.added,
     )
 
 pub returns : goal.returns
 returns c =
     let a = c.args in
     let l = c.loop-c in record {
-      t_len = l.invariant.1;
-      by_index = columns_done a.block (gain_at a.cur.now a.step.now a.target.now a.left) a.v a.src.now a.area.now a.j a.m a.t.now l.c l.t (omega arith) l.invariant.2;
+      local = l.invariant.1;
+      summed = columns_done a.block (gain_in a.node) a.v a.src.now a.area.now a.j a.m a.t.now l.c l.t (omega arith) l.invariant.2;
     }

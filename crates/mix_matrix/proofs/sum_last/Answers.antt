@@ -1,22 +1,23 @@
 use mathlib.Core.Path.{◌≡◌, refl, ◌∙◌}
 use native.Mathlib.Omega.{arith}
 use borrow.Author.Rules.{rules}
-use Rattle.node.specs.Nodes.{gain_at}
+use Rattle.node.specs.Rows.{gain_in}
 use Rattle.mix.proofs.Rows.{no_sample, row_sample_lem}
 use Rattle.mix_matrix.proofs.sum_last.Goals as goal
 
 pub loop-j-init : goal.loop-j-init
 loop-j-init c =
     let a = c.args in
-    (search rules, c.requires.row.1, refl, no_sample a.block (gain_at a.cur.now a.step.now a.target.now a.left) a.v a.src.now a.d a.area.now c.requires.row.0 a.r)
+    (search rules, c.requires.rest, refl, no_sample a.block (gain_in a.node) a.v a.src.now a.d a.area.now c.requires.row a.r)
 
 pub sum_piece-requires : goal.sum_piece-requires
 sum_piece-requires c =
     let l = c.loop-j in
     let p = c.requires in record {
       values = p.values;
-      m_bound = (omega arith, p.row.0.small, omega arith, omega (arith, p.row.0.target));
-      all_inside = λ i h. omega (arith, p.row.0.sources i h);
+      piece = (omega arith, p.row.small, omega arith);
+      target = omega (arith, p.row.target);
+      sources = λ i h. omega (arith, p.row.sources i h);
     }
 
 pub loop-j-preserved : goal.loop-j-preserved
@@ -26,7 +27,7 @@ loop-j-preserved c =
       omega arith,
       search rules,
       c.sum_piece.auto.area ∙ l.invariant.2,
-      row_sample_lem a.block (gain_at a.cur.now a.step.now a.target.now a.left) a.v a.src.now a.d a.area.now c.requires.row.0 a.r l.j l.invariant.0 c.loop-j-test.true l.invariant.3 c.sum_piece.ensures,
+      row_sample_lem a.block (gain_in a.node) a.v a.src.now a.d a.area.now c.requires.row a.r l.j l.invariant.0 c.loop-j-test.true l.invariant.3 c.sum_piece.ensures,
     )
 
 pub returns : goal.returns

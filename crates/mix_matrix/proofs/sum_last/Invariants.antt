@@ -3,13 +3,13 @@ use mathlib.Core.Path.{◌≡◌}
 use Prim.Native.Nat.{◌+◌, ◌-◌, ◌*◌, ◌≤◌}
 use lib.ListN.{length}
 use lib.Seq.{sets}
-use Rattle.node.specs.Nodes.{gain_at}
+use Rattle.node.specs.Rows.{gain_in}
 use Rattle.mix.specs.Samples.{silence, sampled}
 use Rattle.mix.specs.Loops.{row_sample}
 use Rattle.mix_matrix.proofs.sum_last.Given as goal
 
 abbrev pub invariant-loop-j : goal.invariant-loop-j
-invariant-loop-j l = (l.r ≤ l.j) × (l.j ≤ l.block) × (length l.area ≡ length l.initial.area) × (l.area ≡ sets l.initial.area (l.d * l.block + l.r) (sampled (l.j - l.r) (λ i. row_sample l.block (gain_at l.cur l.step l.target l.left) l.v l.src l.initial.area (l.r + i) silence)))
+invariant-loop-j l = (l.r ≤ l.j) × (l.j ≤ l.block) × (length l.area ≡ length l.initial.area) × (l.area ≡ sets l.initial.area (l.d * l.block + l.r) (sampled (l.j - l.r) (λ i. row_sample l.block (gain_in l.node) l.v l.src l.initial.area (l.r + i) silence)))
 
 abbrev pub decreases-loop-j : goal.decreases-loop-j
 decreases-loop-j l = l.block - l.j

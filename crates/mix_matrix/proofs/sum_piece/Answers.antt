@@ -2,7 +2,8 @@
 use Prim.Native.Nat.{ℕ, ◌+◌, ◌*◌}
 use lib.Ieee.{Float}
 use borrow.Author.Rules.{rules}
-use Rattle.node.specs.Nodes.{silence, gain_at}
+use Rattle.node.specs.Nodes.{silence}
+use Rattle.node.specs.Rows.{gain_in}
 use Rattle.mix.specs.Loops.{row_sample}
 use Rattle.mix.proofs.Mixed.{samples_stored}
 use Rattle.mix.proofs.Rows.{from_silence}
@@ -11,13 +12,14 @@ use Rattle.mix_matrix.proofs.sum_piece.Goals as goal
 pub sum_columns-requires : goal.sum_columns-requires
 sum_columns-requires c = let p = c.requires in record {
   values = p.values;
-  m_bound = (p.m_bound.0, p.m_bound.1, p.m_bound.2, search rules);
-  all_inside = p.all_inside;
+  piece = p.piece;
+  local = search rules;
+  sources = p.sources;
 }
 
 pub returns : goal.returns
 returns c =
     let a = c.args in
-    let f : ℕ → Float → Float = λ k. row_sample a.block (gain_at a.cur.now a.step.now a.target.now a.left) a.v a.src.now a.area.now (a.j + k) in
+    let f : ℕ → Float → Float = λ k. row_sample a.block (gain_in a.node) a.v a.src.now a.area.now (a.j + k) in
     samples_stored (λ k. f k silence) a.area.now (a.d * a.block + a.j) a.m c.store.ensures
-    (from_silence f a.m (search rules) c.sum_columns.ensures.by_index)
+    (from_silence f a.m (search rules) c.sum_columns.ensures.summed)

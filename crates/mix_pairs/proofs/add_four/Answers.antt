@@ -16,10 +16,10 @@ add_four_piece-requires c =
     let p = c.requires in
     let l = c.loop-i in
     let r = whole_piece * l.i in
-    let e = both_apart (plus_scaled (Rest a.a)) (plus_scaled (Rest a.b)) (plus_scaled (Rest a.f)) (plus_scaled (Rest a.h)) a.block a.s a.z a.d a.e a.area.now p.pair.0 p.pair.1 p.pair_2.0 p.pair_2.1 p.fact in record {
-      piece = piece_of p.pair.0 l.invariant.1.0 r whole_piece (omega arith) (omega arith);
-      piece_2 = piece_of p.pair.1 l.invariant.1.0 r whole_piece (omega arith) (omega arith);
-      piece_3 = piece_of e l.invariant.1.0 r whole_piece (omega arith) (omega arith);
+    let e = both_apart (plus_scaled (Rest a.a)) (plus_scaled (Rest a.b)) (plus_scaled (Rest a.f)) (plus_scaled (Rest a.h)) a.block a.s a.z a.d a.e a.area.now p.d.0 p.d.1 p.e.0 p.e.1 p.differ in record {
+      from = piece_of p.d.0 l.invariant.1.0 r whole_piece (omega arith) (omega arith);
+      other = piece_of p.d.1 l.invariant.1.0 r whole_piece (omega arith) (omega arith);
+      next = piece_of e l.invariant.1.0 r whole_piece (omega arith) (omega arith);
     }
 
 pub loop-i-preserved : goal.loop-i-preserved
@@ -27,34 +27,34 @@ loop-i-preserved c =
     let a = c.args in
     let p = c.requires in
     let l = c.loop-i in
-    (search rules, both_done (plus_scaled (Rest a.a)) (plus_scaled (Rest a.b)) (plus_scaled (Rest a.f)) (plus_scaled (Rest a.h)) a.block a.s a.z a.d a.e a.area.now p.pair.0 p.pair.1 p.pair_2.0 p.pair_2.1 p.fact l.i c.loop-i-test.true l.invariant.1 c.add_four_piece.ensures)
+    (search rules, both_done (plus_scaled (Rest a.a)) (plus_scaled (Rest a.b)) (plus_scaled (Rest a.f)) (plus_scaled (Rest a.h)) a.block a.s a.z a.d a.e a.area.now p.d.0 p.d.1 p.e.0 p.e.1 p.differ l.i c.loop-i-test.true l.invariant.1 c.add_four_piece.ensures)
 
 pub returns-then-r-block : goal.returns-then-r-block
 returns-then-r-block c =
     let a = c.args in
     let p = c.requires in
     let l = c.loop-i in
-    boths_done (plus_scaled (Rest a.a)) (plus_scaled (Rest a.b)) (plus_scaled (Rest a.f)) (plus_scaled (Rest a.h)) a.block a.s a.z a.d a.e a.area.now p.pair.0 p.pair.1 p.pair_2.0 p.pair_2.1 p.fact l.i (omega arith) l.invariant.1
+    boths_done (plus_scaled (Rest a.a)) (plus_scaled (Rest a.b)) (plus_scaled (Rest a.f)) (plus_scaled (Rest a.h)) a.block a.s a.z a.d a.e a.area.now p.d.0 p.d.1 p.e.0 p.e.1 p.differ l.i (omega arith) l.invariant.1
 
-pub add_two_last-requires : goal.add_two_last-requires
-add_two_last-requires c =
+pub two_last-requires : goal.two_last-requires
+two_last-requires c =
     let a = c.args in
     let p = c.requires in
     let l = c.loop-i in
     let r = whole_piece * (a.block / whole_piece) in record {
-      piece = piece_of p.pair.0 l.invariant.1.0 r (a.block - r) (omega arith) (omega arith);
-      piece_2 = piece_of p.pair.1 l.invariant.1.0 r (a.block - r) (omega arith) (omega arith);
+      from = piece_of p.d.0 l.invariant.1.0 r (a.block - r) (omega arith) (omega arith);
+      other = piece_of p.d.1 l.invariant.1.0 r (a.block - r) (omega arith) (omega arith);
     }
 
-pub add_two_last-requires-2 : goal.add_two_last-requires-2
-add_two_last-requires-2 c =
+pub two_last-requires-2 : goal.two_last-requires-2
+two_last-requires-2 c =
     let a = c.args in
     let p = c.requires in
     let l = c.loop-i in
-    let n = c.add_two_last.auto.area ∙ l.invariant.1.0 in
+    let n = c.two_last.auto.area ∙ l.invariant.1.0 in
     let r = whole_piece * (a.block / whole_piece) in record {
-      piece = piece_of p.pair_2.0 n r (a.block - r) (omega arith) (omega arith);
-      piece_2 = piece_of p.pair_2.1 n r (a.block - r) (omega arith) (omega arith);
+      from = piece_of p.e.0 n r (a.block - r) (omega arith) (omega arith);
+      other = piece_of p.e.1 n r (a.block - r) (omega arith) (omega arith);
     }
 
 pub returns : goal.returns
@@ -62,4 +62,4 @@ returns c =
     let a = c.args in
     let p = c.requires in
     let l = c.loop-i in
-    both_rest (plus_scaled (Rest a.a)) (plus_scaled (Rest a.b)) (plus_scaled (Rest a.f)) (plus_scaled (Rest a.h)) a.block a.s a.z a.d a.e a.area.now p.pair.0 p.pair.1 p.pair_2.0 p.pair_2.1 p.fact l.i (omega arith) l.invariant.1 c.add_two_last.ensures c.add_two_last-2.ensures
+    both_rest (plus_scaled (Rest a.a)) (plus_scaled (Rest a.b)) (plus_scaled (Rest a.f)) (plus_scaled (Rest a.h)) a.block a.s a.z a.d a.e a.area.now p.d.0 p.d.1 p.e.0 p.e.1 p.differ l.i (omega arith) l.invariant.1 c.two_last.ensures c.two_last-2.ensures

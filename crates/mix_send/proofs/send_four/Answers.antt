@@ -23,17 +23,17 @@ pub add_four-requires : goal.add_four-requires
 add_four-requires c =
     let a = c.args in
     let p = c.requires in
-    let n = p.four.0.columns in
-    let m = p.four.0.rows in
+    let n = p.four.columns in
+    let m = p.four.rows in
     let d : Row a.block a.src.now (get_or a.dst.now 0 0) a.area.now = row_of refl p.buffers 0 (omega arith) in
     let e : Row a.block a.src.now (get_or a.dst.now 1 0) a.area.now = row_of refl p.buffers 1 (omega arith) in record {
-      pair = (pair_of refl d 0 (omega arith), pair_of refl d 1 (omega arith));
-      pair_2 = (pair_of refl e 0 (omega arith), pair_of refl e 1 (omega arith));
-      fact = p.four.0.differ;
+      d = (pair_of refl d 0 (omega arith), pair_of refl d 1 (omega arith));
+      e = (pair_of refl e 0 (omega arith), pair_of refl e 1 (omega arith));
+      differ = p.four.differ;
     }
 
 pub returns : goal.returns
 returns c =
     let a = c.args in
     let p = c.requires in
-    four_sent a.block a.t a.weights.now a.src.now a.dst.now a.area.now p.buffers p.four.0 p.four.1 c.add_four.ensures
+    four_sent a.block a.t a.weights.now a.src.now a.dst.now a.area.now p.buffers p.four p.sounds c.add_four.ensures

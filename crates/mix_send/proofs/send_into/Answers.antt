@@ -8,9 +8,9 @@ returns-then-w c = let a = c.args in weight_zero a.block a.g a.w a.s a.d a.area.
 pub returns-in-Rest : goal.returns-in-Rest
 returns-in-Rest c =
     let a = c.args in
-    sent_at_rest a.block a.g a.w a.s a.d a.area.now c.in-Rest.is c.if-w.false c.requires.g_value c.add_into.ensures
+    sent_at_rest a.block a.g a.w a.s a.d a.area.now c.in-Rest.is c.if-w.false c.requires.sounds c.mix_into.ensures
 
 pub returns-in-Moving : goal.returns-in-Moving
 returns-in-Moving c =
     let a = c.args in
-    sent_ramping a.block a.g a.w a.s a.d a.area.now c.in-Moving.is c.if-w.false c.weigh_into.ensures
+    sent_ramping a.block a.g a.w a.s a.d a.area.now c.in-Moving.is c.if-w.false c.mix_into-in-Moving.ensures

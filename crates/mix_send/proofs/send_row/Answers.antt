@@ -23,9 +23,10 @@ send_two-requires c =
     let p = c.requires in
     let n = c.if-src-eq2.true in
     let b = c.if-w-v.true in record {
-      pair = pair_of refl p.row 0 (omega arith);
-      pair_2 = pair_of refl p.row 1 (omega arith);
-      w_value = (first_not (is_zero (get_or a.weights.now a.at nan)) (is_zero (get_or a.weights.now (a.at + 1) nan)) b, second_not (is_zero (get_or a.weights.now a.at nan)) (is_zero (get_or a.weights.now (a.at + 1) nan)) b, p.src_in_bounds.1);
+      s = pair_of refl p.row 0 (omega arith);
+      z = pair_of refl p.row 1 (omega arith);
+      weighted = (first_not (is_zero (get_or a.weights.now a.at nan)) (is_zero (get_or a.weights.now (a.at + 1) nan)) b, second_not (is_zero (get_or a.weights.now a.at nan)) (is_zero (get_or a.weights.now (a.at + 1) nan)) b);
+      sounds = p.sounds;
     }
 
 pub returns-then-w-v : goal.returns-then-w-v
@@ -42,7 +43,7 @@ overflow_cast-s c = omega (arith, c.type_inv.src c.loop-c.c)
 pub send_into-requires : goal.send_into-requires
 send_into-requires c = let l = c.loop-c in record {
   pair = pair_of l.invariant.1 c.requires.row l.c c.loop-c-test.true;
-  g_value = c.requires.src_in_bounds.1;
+  sounds = c.requires.sounds;
 }
 
 pub loop-c-preserved : goal.loop-c-preserved

@@ -13,7 +13,8 @@ pub send_four-requires : goal.send_four-requires
 send_four-requires c =
     let p = c.requires in record {
       buffers = p.buffers;
-      four = (c.is_four.ensures c.if-is_four.true, rw c.in-Rest.is at p.src_in_bounds.1);
+      four = c.is_four.ensures c.if-is_four.true;
+      sounds = rw c.in-Rest.is at p.sounds;
     }
 
 pub returns-in-Rest : goal.returns-in-Rest
@@ -35,7 +36,8 @@ send_row-requires c =
     let l = c.loop-r in
     let p = c.requires in record {
       row = row_of l.invariant.1 p.buffers l.r c.loop-r-test.true;
-      src_in_bounds = (omega (arith, ends_before {i = c.loop-r.r} {j = length c.args.dst.now} (length c.args.src.now) c.loop-r-test.true), p.src_in_bounds.1);
+      weights = omega (arith, ends_before {i = c.loop-r.r} {j = length c.args.dst.now} (length c.args.src.now) c.loop-r-test.true);
+      sounds = p.sounds;
     }
 
 pub loop-r-preserved : goal.loop-r-preserved

@@ -6,10 +6,10 @@ pub returns-in-Rest : goal.returns-in-Rest
 returns-in-Rest c =
     let a = c.args in
     let p = c.requires in
-    two_at_rest a.block a.g a.w a.v a.s a.z a.d a.area.now c.in-Rest.is p.w_value.0 p.w_value.1 p.w_value.2 p.pair.apart p.pair_2.apart p.pair.target c.add_two.ensures
+    two_at_rest a.block a.g a.w a.v a.s a.z a.d a.area.now c.in-Rest.is p.weighted.0 p.weighted.1 p.sounds p.s.apart p.z.apart p.s.target c.two_into.ensures
 
 pub returns-in-Moving : goal.returns-in-Moving
 returns-in-Moving c =
     let a = c.args in
     let p = c.requires in
-    two_ramping a.block a.g a.w a.v a.s a.z a.d a.area.now c.in-Moving.is p.w_value.0 p.w_value.1 p.pair.apart p.pair_2.apart p.pair.target c.weigh_two.ensures
+    two_ramping a.block a.g a.w a.v a.s a.z a.d a.area.now c.in-Moving.is p.weighted.0 p.weighted.1 p.s.apart p.z.apart p.s.target c.two_into-in-Moving.ensures

@@ -1,11 +1,7 @@
 -- `plan_areas::id_among` meets its contract. No node from i on has the id. Assumes nothing.
 use mathlib.Core.Path.{◌≡◌}
-use Prim.Native.Nat.{◌≤◌}
 use Rattle.plan.specs.Check.{id_among}
 use Rattle.plan_areas.proofs.id_among.Given as goal
 
 abbrev pub invariant-loop-i : goal.invariant-loop-i
-invariant-loop-i l = (l.i ≤ l.n) × (id_among l.words l.n l.id ≡ id_among l.words l.i l.id)
-
-abbrev pub decreases-loop-i : goal.decreases-loop-i
-decreases-loop-i l = l.i
+invariant-loop-i l = id_among l.words l.n l.id ≡ id_among l.words l.i l.id

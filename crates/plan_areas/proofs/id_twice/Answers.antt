@@ -1,4 +1,4 @@
-use mathlib.Core.Path.{refl, sym, ap, ◌∙◌}
+use mathlib.Core.Path.{sym, ap, ◌∙◌}
 use native.Mathlib.Nat.{ne_of_lt}
 use native.Mathlib.Omega.{arith}
 use Rattle.lists.proofs.Scans.{above, counted_yes, counted_no, counted_end}
@@ -11,18 +11,15 @@ returns-then-ascend c =
     let a = c.args in
     sym ((ids_none a.words.now a.n).1 (λ i j h k. ne_of_lt (c.ascend.ensures c.if-ascend.true i j h k)))
 
-pub loop-later-init : goal.loop-later-init
-loop-later-init c = (omega arith, refl)
-
 pub returns-then-id_among : goal.returns-then-id_among
 returns-then-id_among c =
     let l = c.loop-later in
-    sym (l.invariant.1 ∙ counted_yes (twice_counted _) (above l.later (omega arith)) (sym (ap (id_among _ _) c.id_of.ensures) ∙ sym c.id_among.ensures ∙ c.if-id_among.true))
+    sym (l.invariant ∙ counted_yes (twice_counted _) (above l.later (omega arith)) (sym (ap (id_among _ _) c.id_of.ensures) ∙ sym c.id_among.ensures ∙ c.if-id_among.true))
 
 pub loop-later-preserved : goal.loop-later-preserved
 loop-later-preserved c =
     let l = c.loop-later in
-    (omega arith, l.invariant.1 ∙ counted_no (twice_counted _) (above l.later (omega arith)) (sym (ap (id_among _ _) c.id_of.ensures) ∙ sym c.id_among.ensures ∙ c.if-id_among.false))
+    l.invariant ∙ counted_no (twice_counted _) (above l.later (omega arith)) (sym (ap (id_among _ _) c.id_of.ensures) ∙ sym c.id_among.ensures ∙ c.if-id_among.false)
 
 pub returns : goal.returns
-returns c = sym (c.loop-later.invariant.1 ∙ counted_end (twice_counted _) (omega arith))
+returns c = sym (c.loop-later.invariant ∙ counted_end (twice_counted _) (omega arith))

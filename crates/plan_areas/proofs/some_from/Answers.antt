@@ -1,20 +1,15 @@
-use mathlib.Core.Path.{refl, sym, ◌∙◌}
-use native.Mathlib.Omega.{arith}
-use borrow.Author.Tests.{le-leb, lt-leb}
-use Rattle.lists.proofs.Scans.{some_listed, listed_yes, listed_no, listed_end}
+-- `plan_areas::some_from` meets its contract: `any` asks of each entry whether it is n or above. Assumes nothing.
+use mathlib.Core.Path.{◌∙◌}
+use borrow.Author.Rules.{rules}
+use borrow.Author.Tests.{tests}
+use lib.Dec.{leb}
+use Rattle.std.proofs.lemmas.Iterator.{YieldsList-from_slice}
+use Rattle.std.proofs.lemmas.Iterator.Search.{any_from_yields_List}
+use Rattle.lists.proofs.Scans.{some_listed}
+use Rattle.plan.proofs.Searches.{any_listed}
 use Rattle.plan_areas.proofs.some_from.Goals as goal
 
-pub loop-i-init : goal.loop-i-init
-loop-i-init c = (omega arith, refl)
-
-pub overflow_cast-entries : goal.overflow_cast-entries
-overflow_cast-entries c = omega (arith, c.type_inv.entries c.loop-i.i)
-
-pub returns-then-entries-i : goal.returns-then-entries-i
-returns-then-entries-i c = sym (c.loop-i.invariant.1 ∙ listed_yes (some_listed _) _ c.loop-i-test.true (le-leb _ _ c.if-entries-i.true))
-
-pub loop-i-preserved : goal.loop-i-preserved
-loop-i-preserved c = (omega arith, c.loop-i.invariant.1 ∙ listed_no (some_listed _) _ c.loop-i-test.true (lt-leb _ _ c.if-entries-i.false))
-
 pub returns : goal.returns
-returns c = sym (c.loop-i.invariant.1 ∙ listed_end (some_listed _) _ c.loop-i.i (omega arith))
+returns c =
+    any_from_yields_List (leb c.args.n) _ _ _ c.any.ensures.ran (YieldsList-from_slice c.args.entries.now cc) (λ x b q k. search (rules, tests))
+    ∙ any_listed (some_listed c.args.n) c.args.entries.now

@@ -2,15 +2,12 @@
 use mathlib.Core.Path.{◌≡◌}
 use Prim.Native.Nat.{◌+◌, ◌-◌}
 use Rattle.refusal.specs.Tests.{first}
-use Rattle.refusal.specs.declared.Answer.TheVariants.{Accepted}
 use Rattle.plan.specs.Check.{steps_tests}
 use Rattle.plan.proofs.Counting.{Counting}
 use Rattle.plan_check.proofs.check_steps.Given as goal
+use Rattle.std.specs.Prelude.{Ok}
 
 abbrev pub invariant-loop-i : goal.invariant-loop-i
 invariant-loop-i l =
-    Counting l.words l.n l.total l.at l.i
-    × (first (steps_tests l.plan l.indices l.words l.n 0 1) Accepted ≡ first (steps_tests l.plan l.indices l.words (l.n - l.i) l.at (l.i + 1)) Accepted)
-
-abbrev pub decreases-loop-i : goal.decreases-loop-i
-decreases-loop-i l = l.n - l.i
+    Counting l.words l.indices.plan.steps l.total l.at l.i
+    × (first (steps_tests l.indices.plan l.indices.list.now l.words l.indices.plan.steps 0 1) (Ok tt) ≡ first (steps_tests l.indices.plan l.indices.list.now l.words (l.indices.plan.steps - l.i) l.at (l.i + 1)) (Ok tt))

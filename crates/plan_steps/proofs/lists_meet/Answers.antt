@@ -1,22 +1,14 @@
-use mathlib.Core.Path.{refl, sym, ◌∙◌}
-use native.Mathlib.Omega.{arith}
-use Rattle.lists.proofs.Scans.{meet_listed, listed_yes, listed_no, listed_end}
+-- `plan_steps::lists_meet` meets its contract: `any` asks of each entry whether it is in the set. Assumes nothing.
+use mathlib.Core.Path.{◌∙◌}
+use borrow.Author.Rules.{rules}
+use Rattle.std.proofs.lemmas.Iterator.{YieldsList-from_slice}
+use Rattle.std.proofs.lemmas.Iterator.Search.{any_from_yields_List}
+use Rattle.lists.specs.Entries.{has}
+use Rattle.lists.proofs.Scans.{meet_listed}
+use Rattle.plan.proofs.Searches.{any_listed}
 use Rattle.plan_steps.proofs.lists_meet.Goals as goal
 
-pub loop-i-init : goal.loop-i-init
-loop-i-init c = (omega arith, refl)
-
-pub returns-then-has : goal.returns-then-has
-returns-then-has c =
-    sym (c.loop-i.invariant.1
-    ∙ listed_yes (meet_listed _) _ c.loop-i-test.true (sym (c.has.ensures ∙ c.set_of-set.ensures _) ∙ c.if-has.true))
-
-pub loop-i-preserved : goal.loop-i-preserved
-loop-i-preserved c = (
-  omega arith,
-  c.loop-i.invariant.1
-      ∙ listed_no (meet_listed _) _ c.loop-i-test.true (sym (c.has.ensures ∙ c.set_of-set.ensures _) ∙ c.if-has.false),
-)
-
 pub returns : goal.returns
-returns c = sym (c.loop-i.invariant.1 ∙ listed_end (meet_listed _) _ c.loop-i.i (omega arith))
+returns c =
+    any_from_yields_List (has c.args.ys.now) _ _ _ c.any.ensures.ran (YieldsList-from_slice c.args.xs.now cc) (λ x b q k. search (rules, c.set_of-set.ensures x.now))
+    ∙ any_listed (meet_listed c.args.ys.now) c.args.xs.now

@@ -25,22 +25,21 @@ one_more list i s t h w all j =
     ∙ ap (λ (b : Bool). member s j || b) (sym (listed_here (has_listed j) list h))
     ∙ all j
 
-pub loop-i-init : goal.loop-i-init
-loop-i-init c = (omega arith, λ j. ap (λ (b : Bool). b || has c.args.list.now j) (c.empty-set.ensures j))
+pub loop-entry-init : goal.loop-entry-init
+loop-entry-init c j = ap (λ (b : Bool). b || has c.args.list.now j) (c.empty-set.ensures j)
 
 pub with-set-requires : goal.with-set-requires
-with-set-requires c = (some_none set_size c.args.list.now).0 c.requires c.loop-i.i c.loop-i-test.true
+with-set-requires c = (some_none set_size c.args.list.now).0 c.requires c.loop-entry.entry-index c.loop-entry-test.true
 
-pub loop-i-preserved : goal.loop-i-preserved
-loop-i-preserved c =
-    let l = c.loop-i in
-    let a = c.args in
-    (omega arith, one_more a.list.now l.i l.set c.with-set.result c.loop-i-test.true c.with-set.ensures l.invariant.1)
+pub loop-entry-preserved : goal.loop-entry-preserved
+loop-entry-preserved c =
+    let l = c.loop-entry in
+    one_more c.args.list.now l.entry-index l.set c.with-set.result c.loop-entry-test.true c.with-set.ensures l.invariant
 
 pub returns : goal.returns
 returns c j =
-    let l = c.loop-i in
+    let l = c.loop-entry in
     let list = c.args.list.now in
     sym (or-false (member l.set j))
-    ∙ ap (λ (b : Bool). member l.set j || b) (sym (listed_end (has_listed j) list l.i (omega arith)))
-    ∙ l.invariant.1 j
+    ∙ ap (λ (b : Bool). member l.set j || b) (sym (listed_end (has_listed j) list l.entry-index (omega arith)))
+    ∙ l.invariant j

@@ -7,16 +7,18 @@ use Rattle.sets.specs.Sets.{set_size}
 use Rattle.plan.proofs.Spans.{names, names_low, apart_none}
 use Rattle.plan_steps.proofs.spans_meet.Goals as goal
 
-pub returns-then-ascending-spans_apart : goal.returns-then-ascending-spans_apart
-returns-then-ascending-spans_apart c =
+pub returns-then-indices-spans_apart : goal.returns-then-indices-spans_apart
+returns-then-indices-spans_apart c =
     let a = c.args in
-    let t = and_both _ _ c.if-ascending-spans_apart.true in
-    sym (apart_none a.indices.now a.plan.indices (c.requires.3 t.0) a.src a.dst c.requires.1 c.requires.2 (sym c.spans_apart.ensures ∙ t.1))
+    let i = a.indices in
+    let t = and_both _ _ c.if-indices-spans_apart.true in
+    sym (apart_none i.list.now i.plan.indices (i.ascends t.0) a.src a.dst c.requires.0 c.requires.1 (sym c.spans_apart.ensures ∙ t.1))
 
 pub lists_meet-requires : goal.lists_meet-requires
 lists_meet-requires c =
     let a = c.args in
-    ap (some_from set_size) c.numbers-2.ensures ∙ names_low a.plan a.indices.now a.dst (names a.plan a.indices.now c.requires.0 a.dst c.requires.2) c.requires.0.few
+    let i = a.indices in
+    ap (some_from set_size) c.numbers-2.ensures ∙ names_low i.plan i.list.now a.dst (names i.plan i.list.now i.tested a.dst c.requires.1) i.tested.few
 
 pub returns : goal.returns
 returns c = rw (c.lists_meet.ensures, c.numbers-2.ensures, c.numbers.ensures)

@@ -15,7 +15,7 @@ gain-requires c =
     let from = c.numbers-from.ensures in
     let to = c.numbers-to.ensures in record {
       buffers = gain_apart f c.requires.narrow.1 from to;
-      values = rows_values a.floats.now a.node _ (node_room f).0 (used_count f c.requires.narrow.0 from to) c.cur_of-cur.ensures c.target_of-target.ensures c.step_of-step.ensures;
+      values = rows_values a.floats.now a.node _ (node_room f).0 (used_count f c.requires.narrow.0 from to) c.rows_of-rows.ensures.cur c.rows_of-rows.ensures.target c.rows_of-rows.ensures.step;
     }
 
 pub returns : goal.returns
@@ -23,5 +23,5 @@ returns c =
     let a = c.args in
     c.gain.ensures
     ∙ same_call (λ (g : ℕ → Gain) (s d : List ℕ). gained a.plan.block g 0 s d a.buffers.now)
-    (rows_gains a.floats.now a.words.now a.node c.cur_of-cur.ensures c.target_of-target.ensures c.step_of-step.ensures c.left_of-left.ensures)
+    (rows_gains a.floats.now a.words.now a.node c.rows_of-rows.ensures.cur c.rows_of-rows.ensures.target c.rows_of-rows.ensures.step c.rows_of-rows.ensures.left)
     c.numbers-from.ensures c.numbers-to.ensures

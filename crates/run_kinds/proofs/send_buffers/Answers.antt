@@ -16,7 +16,7 @@ send-requires c =
     let from = c.numbers-from.ensures in
     let to = c.numbers-to.ensures in record {
       buffers = step_apart f c.requires.disjoint.0 from to;
-      src_in_bounds = values_count f (length c.args.w.now) c.requires.disjoint.1 from to;
+      weights = values_count f (length c.args.w.now) c.requires.disjoint.1 from to;
     }
 
 pub returns : goal.returns

@@ -1,16 +1,20 @@
 -- `run_process::process` meets its contract. Assumes nothing.
-use mathlib.Core.Path.{◌≡◌, refl, sym, ◌∙◌}
+use mathlib.Core.Path.{refl, sym, ap, ◌∙◌}
 use lib.Seq.{length-take-le}
-use Rattle.refusal.specs.declared.Answer.TheVariants.{Accepted}
 use Rattle.input.proofs.Input.{directory_good}
-use Rattle.run.specs.Run.{given, state, admission}
-use Rattle.run.proofs.Admitted.{Admitted, admitted}
+use Rattle.run.specs.Run.{state}
+use Rattle.run.proofs.Admitted.{admitted}
 use Rattle.run.proofs.Answers.{returned_refused, returned_accepted}
 use Rattle.run_process.proofs.process.Goals as goal
+use Rattle.std.specs.Prelude.{Err}
+use Rattle.std.proofs.lemmas.Result.{err_from_is_err_and}
 
-pub returns-in-Refused : goal.returns-in-Refused
-returns-in-Refused c =
-    let r = returned_refused ((given c.args.plan c.args.indices.now c.args.coefficients.now c.args.steps.now c.args.directory.now c.args.samples.now)) ((state c.args.node_floats.now c.args.node_words.now c.args.buffers.now c.args.output.now 0)) ((state c.args.node_floats.now c.args.node_words.now c.args.buffers.now c.args.output.now 0)) _ (sym c.admission-answer.ensures ∙ c.in-Refused.is) refl refl in
+pub returns-in_err-admission : goal.returns-in_err-admission
+returns-in_err-admission c =
+    let a = c.args in
+    let s = state a.node_floats.now a.node_words.now a.buffers.now a.output.now 0 in
+    let p = err_from_is_err_and c.from_residual.result c.from_residual.ensures.1 in
+    let r = returned_refused _ s s _ (sym c.admission.ensures ∙ c.in_err-admission.was) refl (p.1 ∙ ap Err p.2) in
     record {
       answer = r.0;
       floats = r.1.0;
@@ -20,24 +24,23 @@ returns-in-Refused c =
     }
 
 pub slice_bounds-run_block-end : goal.slice_bounds-run_block-end
-slice_bounds-run_block-end c =
-    let fine : (admission ((given c.args.plan c.args.indices.now c.args.coefficients.now c.args.steps.now c.args.directory.now c.args.samples.now)) ((state c.args.node_floats.now c.args.node_words.now c.args.buffers.now c.args.output.now 0)) ≡ Accepted) = sym c.admission-answer.ensures ∙ c.in_default.is in
-    let taken : (Admitted ((given c.args.plan c.args.indices.now c.args.coefficients.now c.args.steps.now c.args.directory.now c.args.samples.now)) ((state c.args.node_floats.now c.args.node_words.now c.args.buffers.now c.args.output.now 0))) = admitted _ _ (fine) in
-    sym (length-take-le c.args.plan.words c.args.steps.now (taken).step_words)
+slice_bounds-run_block-end c = sym (length-take-le c.args.plan.words c.args.steps.now (admitted _ _ (sym c.admission.ensures ∙ c.in_ok-admission.was)).step_words)
 
 pub run_block-requires : goal.run_block-requires
 run_block-requires c =
-    let fine : (admission ((given c.args.plan c.args.indices.now c.args.coefficients.now c.args.steps.now c.args.directory.now c.args.samples.now)) ((state c.args.node_floats.now c.args.node_words.now c.args.buffers.now c.args.output.now 0)) ≡ Accepted) = sym c.admission-answer.ensures ∙ c.in_default.is in
-    let taken : (Admitted ((given c.args.plan c.args.indices.now c.args.coefficients.now c.args.steps.now c.args.directory.now c.args.samples.now)) ((state c.args.node_floats.now c.args.node_words.now c.args.buffers.now c.args.output.now 0))) = admitted _ _ (fine) in
-    let t = taken in record {
+    let t = admitted _ _ (sym c.admission.ensures ∙ c.in_ok-admission.was) in
+    record {
       fit = (t.fit, t.steps);
-      block_in_bounds = (t.output, (directory_good _ _ t.directory).few);
+      output_room = t.output;
+      few_entries = (directory_good _ _ t.directory).few;
     }
 
 pub returns : goal.returns
 returns c =
-    let fine : (admission ((given c.args.plan c.args.indices.now c.args.coefficients.now c.args.steps.now c.args.directory.now c.args.samples.now)) ((state c.args.node_floats.now c.args.node_words.now c.args.buffers.now c.args.output.now 0)) ≡ Accepted) = sym c.admission-answer.ensures ∙ c.in_default.is in
-    let r = returned_accepted ((given c.args.plan c.args.indices.now c.args.coefficients.now c.args.steps.now c.args.directory.now c.args.samples.now)) ((state c.args.node_floats.now c.args.node_words.now c.args.buffers.now c.args.output.now 0)) (state c.run_block.new.floats c.run_block.new.words c.run_block.new.buffers c.run_block.new.output c.run_block.result) _ (fine) c.run_block.ensures refl in
+    let a = c.args in
+    let s = state a.node_floats.now a.node_words.now a.buffers.now a.output.now 0 in
+    let n = c.run_block.new in
+    let r = returned_accepted _ s (state n.floats n.words n.buffers n.output c.run_block.result) _ (sym c.admission.ensures ∙ c.in_ok-admission.was) c.run_block.ensures refl in
     record {
       answer = r.0;
       floats = r.1.0;

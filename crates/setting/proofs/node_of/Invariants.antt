@@ -1,11 +1,7 @@
 -- `setting::node_of` meets its contract. Assumes nothing.
 use mathlib.Core.Path.{◌≡◌}
-use Prim.Native.Nat.{◌≤◌}
 use Rattle.setting.specs.Setting.{node_of}
 use Rattle.setting.proofs.node_of.Given as goal
 
 abbrev pub invariant-loop-i : goal.invariant-loop-i
-invariant-loop-i l = (l.i ≤ l.n) × (node_of l.words l.n l.id ≡ node_of l.words l.i l.id)
-
-abbrev pub decreases-loop-i : goal.decreases-loop-i
-decreases-loop-i l = l.i
+invariant-loop-i l = node_of l.words l.n l.id ≡ node_of l.words l.i l.id

@@ -2,68 +2,68 @@
 use mathlib.Core.Path.{◌≡◌, refl, sym, ap, ◌∙◌}
 use native.Mathlib.Omega.{arith}
 use lib.ListN.{length}
-use Rattle.refusal.specs.declared.Answer.TheVariants.{Accepted}
-use Rattle.sets.specs.Sets.{members}
-use Rattle.plan.specs.Areas.{short_lists}
-use Rattle.plan.specs.Check.{checked}
 use Rattle.trace.specs.Sources.{no_sources, behind, source_list}
 use Rattle.trace.specs.Calls.{traced_steps}
-use Rattle.trace_sources.specs.Loops.{slot_words}
-use Rattle.trace_sources.proofs.Stored.{zeros_or}
-use Rattle.trace_calls.proofs.Outcomes.{by_plan, by_15, by_2, by_none, refused, listed, set_listed, tested, step_words, few}
+use Rattle.trace_sources.specs.Loops.{slot_sets, set_at, list_at}
+use Rattle.trace_sources.proofs.Stored.{empties_or}
+use Rattle.trace_calls.proofs.Outcomes.{by_plan, by_15, by_2, by_none, refused, listed, set_listed, tested, step_words, few, checks}
+use Rattle.trace_calls.proofs.output_sources.Goals.{In_ok-check_lists, After-behind-n}
 use Rattle.trace_calls.proofs.output_sources.Goals as goal
+use Rattle.std.specs.Prelude.{Ok}
+use Rattle.std.proofs.lemmas.Result.{err_from_is_err_and}
 
-pub returns-in-Refused : goal.returns-in-Refused
-returns-in-Refused c =
+-- the plan check accepted
+accepted : (c : In_ok-check_lists) → checks c.args.plan c.args.indices.now c.args.node_words.now c.args.steps.now ≡ Ok tt
+accepted c = sym c.check_lists.ensures ∙ c.in_ok-check_lists.was
+
+-- the slot's set has the members that its list has
+found : (c : After-behind-n) → list_at c.behind-n.new.slots c.args.slot ≡ source_list c.args.slot (traced_steps c.args.plan c.args.indices.now c.args.steps.now)
+found c =
     let a = c.args in
-    let r = refused a.plan a.slot a.indices.now a.node_words.now a.steps.now a.list.now _ _ (by_plan a.plan a.slot a.indices.now a.node_words.now a.steps.now a.list.now _ (sym c.check_lists.ensures ∙ c.in-Refused.is)) refl in
+    let xs = traced_steps a.plan a.indices.now a.steps.now in
+    let b = c.behind-n in
+    set_listed b.new.slots xs (empties_or slot_sets c.empty-slots.result c.empty-slots.ensures b.new.slots (λ s i. behind s no_sources xs i) b.ensures.sets) a.slot
+
+pub returns-in_err-check_lists : goal.returns-in_err-check_lists
+returns-in_err-check_lists c =
+    let a = c.args in
+    let q = err_from_is_err_and c.from_residual.result c.from_residual.ensures.1 in
+    let r = refused a.plan a.slot a.indices.now a.node_words.now a.steps.now a.list.now _ _ (by_plan a.plan a.slot a.indices.now a.node_words.now a.steps.now a.list.now _ (sym c.check_lists.ensures ∙ c.in_err-check_lists.was)) q.2 in
     record {
-      answer = r.0;
+      answer = q.1 ∙ r.0;
       list = r.1;
     }
 
 pub slice_bounds-behind-end : goal.slice_bounds-behind-end
 slice_bounds-behind-end c =
-    -- the plan check accepted
-    let fine : (let a = c.args in checked a.plan (short_lists a.plan a.indices.now a.node_words.now a.steps.now) a.indices.now a.node_words.now a.steps.now ≡ Accepted) = sym c.check_lists.ensures ∙ c.in_default.is in
-    let a = c.args in step_words a.plan a.indices.now a.node_words.now a.steps.now (fine)
+    let a = c.args in step_words a.plan a.indices.now a.node_words.now a.steps.now (accepted (goal.at.slice_bounds-behind-end c).In_ok-check_lists)
 
 pub behind-n-requires : goal.behind-n-requires
 behind-n-requires c =
-    let fine : (let a = c.args in checked a.plan (short_lists a.plan a.indices.now a.node_words.now a.steps.now) a.indices.now a.node_words.now a.steps.now ≡ Accepted) = sym c.check_lists.ensures ∙ c.in_default.is in
-    let a = c.args in (tested a.plan a.indices.now a.node_words.now a.steps.now (fine), refl)
+    let a = c.args in (tested a.plan a.indices.now a.node_words.now a.steps.now (accepted (goal.at.behind-n-requires c).In_ok-check_lists), refl)
 
 pub returns-then-n-slot : goal.returns-then-n-slot
 returns-then-n-slot c =
-    let fine : (let a = c.args in checked a.plan (short_lists a.plan a.indices.now a.node_words.now a.steps.now) a.indices.now a.node_words.now a.steps.now ≡ Accepted) = sym c.check_lists.ensures ∙ c.in_default.is in
     let a = c.args in
     let r = refused a.plan a.slot a.indices.now a.node_words.now a.steps.now a.list.now _ _
-    (by_15 a.plan a.slot a.indices.now a.node_words.now a.steps.now a.list.now (fine) (omega (arith, c.if-n-slot.true, c.behind-n.ensures.count))) c.of.ensures in
+    (by_15 a.plan a.slot a.indices.now a.node_words.now a.steps.now a.list.now (accepted (goal.at.returns-then-n-slot c).In_ok-check_lists) (omega (arith, c.if-n-slot.true, c.behind-n.ensures.count))) c.into.ensures in
     record {
       answer = r.0;
       list = r.1;
     }
 
-pub load-set-requires : goal.load-set-requires
-load-set-requires c =
-    let fine : (let a = c.args in checked a.plan (short_lists a.plan a.indices.now a.node_words.now a.steps.now) a.indices.now a.node_words.now a.steps.now ≡ Accepted) = sym c.check_lists.ensures ∙ c.in_default.is in
+pub bounds-slots-slot : goal.bounds-slots-slot
+bounds-slots-slot c =
     let a = c.args in
     let b = c.behind-n in
-    omega (arith, few a.plan a.indices.now a.node_words.now a.steps.now (fine), c.if-n-slot.false, b.ensures.count, b.auto.slots)
+    omega (arith, few a.plan a.indices.now a.node_words.now a.steps.now (accepted (goal.at.bounds-slots-slot c).In_ok-check_lists), c.if-n-slot.false, b.ensures.count, b.auto.slots)
 
 pub returns-then-list-count : goal.returns-then-list-count
 returns-then-list-count c =
-    let fine : (let a = c.args in checked a.plan (short_lists a.plan a.indices.now a.node_words.now a.steps.now) a.indices.now a.node_words.now a.steps.now ≡ Accepted) = sym c.check_lists.ensures ∙ c.in_default.is in
-    -- the slot's set has the members that its list has
-    let found : (let a = c.args in members c.load-set.result ≡ source_list a.slot (traced_steps a.plan a.indices.now a.steps.now)) = let a = c.args in
-    let xs = traced_steps a.plan a.indices.now a.steps.now in
-    let b = c.behind-n in
-    ap members c.load-set.ensures
-    ∙ set_listed b.new.slots xs (zeros_or slot_words b.new.slots (λ s i. behind s no_sources xs i) b.ensures.sets) a.slot in
     let a = c.args in
     let r = refused a.plan a.slot a.indices.now a.node_words.now a.steps.now a.list.now _ _
-    (by_2 a.plan a.slot a.indices.now a.node_words.now a.steps.now a.list.now (fine) (omega (arith, c.if-n-slot.false, c.behind-n.ensures.count))
-    (omega (arith, c.if-list-count.true, c.count-count.ensures ∙ ap length (found)))) c.of-then-list-count.ensures in
+    (by_2 a.plan a.slot a.indices.now a.node_words.now a.steps.now a.list.now (accepted (goal.at.returns-then-list-count c).In_ok-check_lists) (omega (arith, c.if-n-slot.false, c.behind-n.ensures.count))
+    (omega (arith, c.if-list-count.true, c.count-count.ensures ∙ ap length (found (goal.at.returns-then-list-count c).After-behind-n)))) c.into-then-list-count.ensures in
     record {
       answer = r.0;
       list = r.1;
@@ -71,17 +71,11 @@ returns-then-list-count c =
 
 pub returns : goal.returns
 returns c =
-    let found : (let a = c.args in members c.load-set.result ≡ source_list a.slot (traced_steps a.plan a.indices.now a.steps.now)) = let a = c.args in
-    let xs = traced_steps a.plan a.indices.now a.steps.now in
-    let b = c.behind-n in
-    ap members c.load-set.ensures
-    ∙ set_listed b.new.slots xs (zeros_or slot_words b.new.slots (λ s i. behind s no_sources xs i) b.ensures.sets) a.slot in
-    let fine : (let a = c.args in checked a.plan (short_lists a.plan a.indices.now a.node_words.now a.steps.now) a.indices.now a.node_words.now a.steps.now ≡ Accepted) = sym c.check_lists.ensures ∙ c.in_default.is in
     let a = c.args in
     let count = c.count-count in
     let room = c.if-list-count.false in
-    let r = listed a.plan a.slot a.indices.now a.node_words.now a.steps.now a.list.now c.load-set.result (found) count.result c.list.new.out
-    (by_none a.plan a.slot a.indices.now a.node_words.now a.steps.now a.list.now (fine) (omega (arith, c.if-n-slot.false, c.behind-n.ensures.count)) (omega (arith, room, count.ensures ∙ ap length (found))))
+    let r = listed a.plan a.slot a.indices.now a.node_words.now a.steps.now a.list.now (set_at c.behind-n.new.slots a.slot) (found (goal.at.returns c).After-behind-n) count.result c.list.new.out
+    (by_none a.plan a.slot a.indices.now a.node_words.now a.steps.now a.list.now (accepted (goal.at.returns c).In_ok-check_lists) (omega (arith, c.if-n-slot.false, c.behind-n.ensures.count)) (omega (arith, room, count.ensures ∙ ap length (found (goal.at.returns c).After-behind-n))))
     count.ensures (omega (arith, room, count.ensures)) c.list.ensures in
     record {
       answer = r.0;

@@ -1,5 +1,4 @@
 use mathlib.Core.Path.{sym, ◌∙◌}
-use native.Mathlib.Omega.{arith}
 use Rattle.trace_clean.proofs.Cleaning.{cleaning_starts, cleaning_fits, cleaning_no, cleaning_on, cleaning_bad, cleaning_ends}
 use Rattle.trace_clean.proofs.all_clean.Goals as goal
 
@@ -16,27 +15,24 @@ returns-in_default c =
 pub clean_step-requires : goal.clean_step-requires
 clean_step-requires c =
     let a = c.args in
-    (cleaning_fits a.plan a.indices.now a.steps.now c.loop-i.invariant c.loop-i-test.true (sym c.read_step.ensures ∙ c.in-Found.is)).0
+    (cleaning_fits a.plan a.indices.now a.steps.now c.loop-i.invariant c.loop-i-test.true (sym c.read_step.ensures ∙ c.in-Some.is)).0
 
 pub returns-then-not-clean_step : goal.returns-then-not-clean_step
 returns-then-not-clean_step c =
     let a = c.args in
     let t = c.clean_step in
-    cleaning_no a.plan a.indices.now a.steps.now c.loop-i.invariant c.loop-i-test.true (sym c.read_step.ensures ∙ c.in-Found.is) (sym t.ensures ∙ c.if-not-clean_step.true)
+    cleaning_no a.plan a.indices.now a.steps.now c.loop-i.invariant c.loop-i-test.true (sym c.read_step.ensures ∙ c.in-Some.is) (sym t.ensures ∙ c.if-not-clean_step.true)
 
 pub written-set-requires : goal.written-set-requires
 written-set-requires c =
     let a = c.args in
-    cleaning_fits a.plan a.indices.now a.steps.now c.loop-i.invariant c.loop-i-test.true (sym c.read_step.ensures ∙ c.in-Found.is)
-
-pub overflow_step-i : goal.overflow_step-i
-overflow_step-i c = omega (arith, c.loop-i-test.true, c.loop-i.invariant.plan.steps)
+    cleaning_fits a.plan a.indices.now a.steps.now c.loop-i.invariant c.loop-i-test.true (sym c.read_step.ensures ∙ c.in-Some.is)
 
 pub loop-i-preserved : goal.loop-i-preserved
 loop-i-preserved c =
     let a = c.args in
     let t = c.clean_step in
-    cleaning_on a.plan a.indices.now a.steps.now c.loop-i.invariant c.loop-i-test.true (sym c.read_step.ensures ∙ c.in-Found.is) c.written-set.result (sym t.ensures ∙ c.if-not-clean_step.false) c.written-set.ensures
+    cleaning_on a.plan a.indices.now a.steps.now c.loop-i.invariant c.loop-i-test.true (sym c.read_step.ensures ∙ c.in-Some.is) c.written-set.result (sym t.ensures ∙ c.if-not-clean_step.false) c.written-set.ensures
 
 pub returns : goal.returns
 returns c =

@@ -1,10 +1,6 @@
 -- `trace_clean::all_clean` meets its contract. Assumes nothing.
-use Prim.Native.Nat.{◌-◌}
 use Rattle.trace_clean.proofs.Cleaning.{Cleaning}
 use Rattle.trace_clean.proofs.all_clean.Given as goal
 
 abbrev pub invariant-loop-i : goal.invariant-loop-i
 invariant-loop-i l = Cleaning l.plan l.indices l.steps l.set l.at l.i
-
-abbrev pub decreases-loop-i : goal.decreases-loop-i
-decreases-loop-i l = l.n - l.i

@@ -1,31 +1,22 @@
 -- `trace_clean::clean_step` meets its contract, kind by kind. Assumes nothing.
-use mathlib.Core.Path.{refl, sym, ap₂}
-use mathlib.Core.Bool.{◌&&◌}
+use mathlib.Core.Path.{◌≡◌, refl, sym, ap₂}
+use mathlib.Core.Bool.{true, ◌&&◌}
+use mathlib.Core.List.{[]}
+use mathlib.Core.Logic.{⊎_elim}
 use lib.Dec.{leb}
 use Rattle.sets.specs.Sets.{member}
 use Rattle.plan.proofs.Spans.{names_length}
+use Rattle.plan.specs.Resolved.{resolved}
 use Rattle.trace.specs.Clean.{clean_step}
 use Rattle.trace_clean.proofs.Cleaning.{placed_as, clean_as}
 use Rattle.trace_clean.proofs.clean_step.Goals as goal
 
-pub span_in-requires : goal.span_in-requires
-span_in-requires c = (placed_as c.args.plan c.args.indices.now c.in-Gain.is c.requires).1.within
-
-pub span_in-requires-in-Matrix : goal.span_in-requires-in-Matrix
-span_in-requires-in-Matrix c = (placed_as c.args.plan c.args.indices.now c.in-Matrix.is c.requires).1.within
-
-pub span_in-requires-in-Send : goal.span_in-requires-in-Send
-span_in-requires-in-Send c = (placed_as c.args.plan c.args.indices.now c.in-Send.is c.requires).1.within
-
-pub span_in-requires-in-Send-2 : goal.span_in-requires-in-Send-2
-span_in-requires-in-Send-2 c = (placed_as c.args.plan c.args.indices.now c.in-Send.is c.requires).2.within
-
-pub span_in-requires-in-Output : goal.span_in-requires-in-Output
-span_in-requires-in-Output c = (placed_as c.args.plan c.args.indices.now c.in-Output.is c.requires).0.within
-
 pub returns-in-Patch : goal.returns-in-Patch
 unfolding clean_step
-returns-in-Patch c = let a = c.args in clean_as a.plan a.indices.now (member a.set) c.in-Patch.is (refl)
+returns-in-Patch c =
+    let a = c.args in
+    ⊎_elim {C = true ≡ clean_step (member a.set) (resolved a.plan a.indices.now [] a.step)}
+    (λ e. clean_as a.plan a.indices.now (member a.set) e.3 refl) (λ e. clean_as a.plan a.indices.now (member a.set) e.1 refl) c.in-Patch.is
 
 pub returns-in-Gain : goal.returns-in-Gain
 unfolding clean_step
@@ -38,16 +29,13 @@ returns-in-Gain c =
 
 pub returns-in-Matrix : goal.returns-in-Matrix
 unfolding clean_step
-returns-in-Matrix c = let a = c.args in clean_as a.plan a.indices.now (member a.set) c.in-Matrix.is c.span_in-in-Matrix.ensures
-
-pub returns-in-Clear : goal.returns-in-Clear
-unfolding clean_step
-returns-in-Clear c = let a = c.args in clean_as a.plan a.indices.now (member a.set) c.in-Clear.is (refl)
+returns-in-Matrix c =
+    let a = c.args in
+    ⊎_elim (λ e. clean_as a.plan a.indices.now (member a.set) e.2 c.span_in-in-Matrix.ensures)
+    (λ e. clean_as a.plan a.indices.now (member a.set) e.1 c.span_in-in-Matrix.ensures) c.in-Matrix.is
 
 pub returns-in-Send : goal.returns-in-Send
 unfolding clean_step
-returns-in-Send c = let a = c.args in clean_as a.plan a.indices.now (member a.set) c.in-Send.is (ap₂ ◌&&◌ c.span_in-in-Send.ensures c.span_in-in-Send-2.ensures)
-
-pub returns-in-Output : goal.returns-in-Output
-unfolding clean_step
-returns-in-Output c = let a = c.args in clean_as a.plan a.indices.now (member a.set) c.in-Output.is c.span_in-in-Output.ensures
+returns-in-Send c =
+    let a = c.args in
+    clean_as a.plan a.indices.now (member a.set) c.in-Send.is (ap₂ ◌&&◌ c.span_in-in-Send.ensures c.span_in-in-Send-2.ensures)

@@ -1,11 +1,6 @@
--- `format_table::pairs::seen_in` meets its contract: the loop's invariant: the pairs of the first i entries are seen. Assumes nothing.
-use Prim.Native.Nat.{◌-◌, ◌≤◌}
-use Rattle.format_table.specs.Tables.{entries}
+-- `format_table::pairs::seen_in` meets its contract: the loop's invariant: the pairs of the entries so far are seen. Assumes nothing.
 use Rattle.format_table.specs.Loops.{SeenIn}
 use Rattle.format_table.proofs.pairs.seen_in.Given as goal
 
-abbrev pub invariant-loop-i : goal.invariant-loop-i
-invariant-loop-i l = (l.i ≤ entries l.pairs) × SeenIn l.pairs l.i l.seen
-
-abbrev pub decreases-loop-i : goal.decreases-loop-i
-decreases-loop-i l = entries l.pairs - l.i
+abbrev pub invariant-loop-src : goal.invariant-loop-src
+invariant-loop-src l = SeenIn l.pairs l.src-index l.seen

@@ -1,61 +1,86 @@
 use mathlib.Core.Path.{◌≡◌, sym, ap, ◌∙◌}
-use mathlib.Core.List.{List}
+use mathlib.Core.Bool.{Bool, true, false, ◌&&◌}
+use mathlib.Core.List.{List, []}
 use Prim.Native.Nat.{ℕ, ◌+◌, ◌-◌, ◌<◌, ◌≤◌}
 use native.Mathlib.Omega.{arith}
-use lib.ListN.{length, take, drop}
+use lib.Dec.{eqb}
+use lib.ListN.{length, get_or, take, drop}
 use lib.Ieee.{Float}
+use Rattle.std.specs.Simd.{first_chunks}
 use Rattle.lists.specs.Parts.{part}
-use Rattle.format_table.specs.Tables.{entries, size_at, needed, times}
-use Rattle.format_table.proofs.Tables.{needed_zero, needed_more, entry_within, times_zero, times_later, entry_only}
+use Rattle.format_table.specs.Tables.{entries, entry_for, size_at, needed, times}
+use Rattle.format_table.proofs.Tables.{needed_zero, needed_more, entry_within, times_zero, times_later, entry_only, items_long, source_is, destination_is, size_is}
 use Rattle.format_table.proofs.table.find_entry.Goals as goal
 
 -- the part of an entry, by its end
 ended : (at size k n : ℕ) (gains : List Float) → at ≡ k → size ≡ n → take (at + size - at) (drop at gains) ≡ part k n gains
 ended at size k n gains p q = let e : at + size - at ≡ n = omega arith in ap (λ (j : ℕ). take j (drop at gains)) e ∙ ap (λ (j : ℕ). take n (drop j gains)) p
 
-pub loop-i-init : goal.loop-i-init
-loop-i-init c = let a = c.args in (omega arith, (sym (needed_zero a.pairs.now), times_zero a.pairs.now a.src a.dst))
+-- the test of the entry, by the numbers that the code has
+tested : (pairs : List ℕ) (items : List (List ℕ)) (i src dst : ℕ) (b : Bool) → items ≡ first_chunks 2 (entries pairs) pairs → i < length items
+    → (eqb (get_or (get_or items i []) 0 0) src && eqb (get_or (get_or items i []) 1 0) dst) ≡ b → entry_for pairs src dst i ≡ b
+tested pairs items i src dst b e h t =
+    let s = source_is pairs items e i h in
+    let d = destination_is pairs items e i h in
+    cc
+
+-- the entry's gains are among the gains
+within : (pairs : List ℕ) (items : List (List ℕ)) (i at size n : ℕ) → items ≡ first_chunks 2 (entries pairs) pairs → i < length items
+    → at ≡ needed pairs i → size ≡ size_at pairs i → needed pairs (entries pairs) ≤ n → at + size ≤ n
+within pairs items i at size n e h p q l =
+    omega (arith, entry_within pairs i (entries pairs) (omega (arith, items_long pairs items e)))
+
+pub loop-from-init : goal.loop-from-init
+loop-from-init c = let a = c.args in (sym (needed_zero a.pairs.now), times_zero a.pairs.now a.src a.dst)
 
 pub overflow_add-end : goal.overflow_add-end
 overflow_add-end c =
-    -- entry i is among the entries, and its gains among the gains
-    let here : c.loop-i.i < entries c.args.pairs.now = omega (arith, c.loop-i-test.true) in
-    let within : c.loop-i.at + c.size_at.result ≤ length c.args.gains.now = omega (arith, c.size_at.ensures.0, c.loop-i.invariant.1.0, c.requires.1, entry_within c.args.pairs.now c.loop-i.i (entries c.args.pairs.now) (here)) in
-    omega (arith, within)
+    let a = c.args in
+    let items = c.entries-from-items in
+    let i = c.loop-from.from-index in
+    let size = size_is a.pairs.now items.result.now items.ensures i c.loop-from-test.true c.size.ensures.0 in
+    omega (arith, within a.pairs.now items.result.now i _ _ _ items.ensures c.loop-from-test.true c.loop-from.invariant.0 size c.requires.1)
 
 pub offset_bounds-gains-at : goal.offset_bounds-gains-at
 offset_bounds-gains-at c =
-    let here : c.loop-i.i < entries c.args.pairs.now = omega (arith, c.loop-i-test.true) in
-    let within : c.loop-i.at + c.size_at.result ≤ length c.args.gains.now = omega (arith, c.size_at.ensures.0, c.loop-i.invariant.1.0, c.requires.1, entry_within c.args.pairs.now c.loop-i.i (entries c.args.pairs.now) (here)) in
-    omega (arith, within)
+    let a = c.args in
+    let items = c.entries-from-items in
+    let i = c.loop-from.from-index in
+    let size = size_is a.pairs.now items.result.now items.ensures i c.loop-from-test.true c.size.ensures.0 in
+    omega (arith, within a.pairs.now items.result.now i _ _ _ items.ensures c.loop-from-test.true c.loop-from.invariant.0 size c.requires.1)
 
 pub slice_bounds-result-end : goal.slice_bounds-result-end
 slice_bounds-result-end c =
-    let here : c.loop-i.i < entries c.args.pairs.now = omega (arith, c.loop-i-test.true) in
-    let within : c.loop-i.at + c.size_at.result ≤ length c.args.gains.now = omega (arith, c.size_at.ensures.0, c.loop-i.invariant.1.0, c.requires.1, entry_within c.args.pairs.now c.loop-i.i (entries c.args.pairs.now) (here)) in
-    omega (arith, within)
-
-pub returns-then-entry_for : goal.returns-then-entry_for
-returns-then-entry_for c =
-    let here : c.loop-i.i < entries c.args.pairs.now = omega (arith, c.loop-i-test.true) in
     let a = c.args in
-    ended c.loop-i.at c.size_at.result (needed a.pairs.now c.loop-i.i) (size_at a.pairs.now c.loop-i.i) a.gains.now c.loop-i.invariant.1.0 c.size_at.ensures.0
-    ∙ sym (entry_only a.pairs.now a.src a.dst a.gains.now c.requires.0 c.loop-i.i (here) (sym c.entry_for.ensures ∙ c.if-entry_for.true))
+    let items = c.entries-from-items in
+    let i = c.loop-from.from-index in
+    let size = size_is a.pairs.now items.result.now items.ensures i c.loop-from-test.true c.size.ensures.0 in
+    within a.pairs.now items.result.now i _ _ _ items.ensures c.loop-from-test.true c.loop-from.invariant.0 size c.requires.1
 
-pub loop-i-preserved : goal.loop-i-preserved
-loop-i-preserved c =
+pub returns-then-wanted : goal.returns-then-wanted
+returns-then-wanted c =
     let a = c.args in
-    let i = c.loop-i.i in (
-      omega arith,
-      (
-        omega (arith, c.size_at.ensures.0, c.loop-i.invariant.1.0, needed_more a.pairs.now i),
-        times_later a.pairs.now a.src a.dst i c.loop-i.invariant.1.1 (sym c.entry_for.ensures ∙ c.if-entry_for.false),
-      ),
-    )
+    let items = c.entries-from-items in
+    let i = c.loop-from.from-index in
+    let here : i < entries a.pairs.now = omega (arith, c.loop-from-test.true, items_long a.pairs.now items.result.now items.ensures) in
+    let size = size_is a.pairs.now items.result.now items.ensures i c.loop-from-test.true c.size.ensures.0 in
+    let is = tested a.pairs.now items.result.now i a.src a.dst true items.ensures c.loop-from-test.true c.if-wanted.true in
+    ended c.loop-from.at c.size.result (needed a.pairs.now i) (size_at a.pairs.now i) a.gains.now c.loop-from.invariant.0 size
+    ∙ sym (entry_only a.pairs.now a.src a.dst a.gains.now c.requires.0 i here is)
+
+pub loop-from-preserved : goal.loop-from-preserved
+loop-from-preserved c =
+    let a = c.args in
+    let items = c.entries-from-items in
+    let i = c.loop-from.from-index in
+    let size = size_is a.pairs.now items.result.now items.ensures i c.loop-from-test.true c.size.ensures.0 in
+    let not = tested a.pairs.now items.result.now i a.src a.dst false items.ensures c.loop-from-test.true c.if-wanted.false in
+    (omega (arith, size, c.loop-from.invariant.0, needed_more a.pairs.now i), times_later a.pairs.now a.src a.dst i c.loop-from.invariant.1 not)
 
 pub returns : goal.returns
 returns c =
     let a = c.args in
-    let e : c.loop-i.i ≡ entries a.pairs.now = omega arith in
-    let z : ◌≡◌ {A = ℕ} 0 1 = sym c.loop-i.invariant.1.1 ∙ ap (times a.pairs.now a.src a.dst) e ∙ c.requires.0 in
+    let items = c.entries-from-items in
+    let all : c.loop-from.from-index ≡ entries a.pairs.now = omega (arith, c.loop-from.auto.from-index-end, items_long a.pairs.now items.result.now items.ensures) in
+    let none : ◌≡◌ {A = ℕ} 0 1 = sym c.loop-from.invariant.1 ∙ ap (times a.pairs.now a.src a.dst) all ∙ c.requires.0 in
     absurd (omega arith)

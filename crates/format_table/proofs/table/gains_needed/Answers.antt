@@ -1,37 +1,39 @@
 use mathlib.Core.Path.{◌≡◌, sym, ap, ◌∙◌}
-use Prim.Native.Nat.{ℕ, ◌<◌, ◌≤◌}
+use Prim.Native.Nat.{◌<◌}
 use native.Mathlib.Omega.{arith}
 use borrow.Author.Tests.{lt-ltb, le-ltb}
-use Rattle.format_table.specs.declared.table.Needs.TheVariants.{Short, Gains}
+use Rattle.std.specs.Prelude.{Some}
 use Rattle.format_table.specs.Tables.{entries, needed}
-use Rattle.format_table.specs.Loops.{needs_of}
-use Rattle.format_table.proofs.Tables.{needed_zero, needed_more, entry_within}
+use Rattle.format_table.proofs.Tables.{needed_zero, needed_more, entry_within, items_long, size_is}
 use Rattle.format_table.proofs.table.gains_needed.Goals as goal
 
-short : (all room : ℕ) → room < all → Short ≡ needs_of all room
-short all room h = rw (lt-ltb room all h)
+pub loop-src-init : goal.loop-src-init
+loop-src-init c = (sym (needed_zero c.args.pairs.now), omega arith)
 
-enough : (n all room : ℕ) → n ≡ all → n ≤ room → Gains n ≡ needs_of all room
-enough n all room e h = rw (le-ltb room all (omega arith)) (ap Gains e)
-
-pub loop-i-init : goal.loop-i-init
-loop-i-init c = (omega arith, (sym (needed_zero c.args.pairs.now), omega arith))
+pub overflow_sub-room : goal.overflow_sub-room
+overflow_sub-room c = c.loop-src.invariant.1
 
 pub returns-then-room-n : goal.returns-then-room-n
 returns-then-room-n c =
-    let a = c.args in
-    let i = c.loop-i.i in
-    let h : i < entries a.pairs.now = omega (arith, c.loop-i-test.true) in
-    short (needed a.pairs.now (entries a.pairs.now)) a.room
-    (omega (arith, c.size_at-size.ensures.0, c.loop-i.invariant.1.0, entry_within a.pairs.now i (entries a.pairs.now) h))
+    let pairs = c.args.pairs.now in
+    let i = c.loop-src.src-index in
+    let items = c.entries-src-items in
+    let here : i < entries pairs = omega (arith, c.loop-src-test.true, items_long pairs items.result.now items.ensures) in
+    let size = size_is pairs items.result.now items.ensures i c.loop-src-test.true c.size-size.ensures.0 in
+    let short : c.args.room < needed pairs (entries pairs) = omega (arith, size, c.loop-src.invariant.0, entry_within pairs i (entries pairs) here) in
+    rw (lt-ltb c.args.room (needed pairs (entries pairs)) short)
 
-pub loop-i-preserved : goal.loop-i-preserved
-loop-i-preserved c =
-    let a = c.args in
-    (omega arith, (omega (arith, c.size_at-size.ensures.0, c.loop-i.invariant.1.0, needed_more a.pairs.now c.loop-i.i), omega arith))
+pub loop-src-preserved : goal.loop-src-preserved
+loop-src-preserved c =
+    let pairs = c.args.pairs.now in
+    let items = c.entries-src-items in
+    let size = size_is pairs items.result.now items.ensures c.loop-src.src-index c.loop-src-test.true c.size-size.ensures.0 in
+    (omega (arith, size, c.loop-src.invariant.0, needed_more pairs c.loop-src.src-index), omega arith)
 
 pub returns : goal.returns
 returns c =
-    let a = c.args in
-    let e : c.loop-i.i ≡ entries a.pairs.now = omega arith in
-    enough c.loop-i.n (needed a.pairs.now (entries a.pairs.now)) a.room (c.loop-i.invariant.1.0 ∙ ap (needed a.pairs.now) e) c.loop-i.invariant.1.1
+    let pairs = c.args.pairs.now in
+    let items = c.entries-src-items in
+    let all : c.loop-src.src-index ≡ entries pairs = omega (arith, c.loop-src.auto.src-index-end, items_long pairs items.result.now items.ensures) in
+    let n : c.loop-src.n ≡ needed pairs (entries pairs) = c.loop-src.invariant.0 ∙ ap (needed pairs) all in
+    rw (le-ltb c.args.room (needed pairs (entries pairs)) (omega (arith, n))) (ap Some n)

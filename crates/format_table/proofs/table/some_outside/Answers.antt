@@ -1,20 +1,18 @@
-use mathlib.Core.Path.{refl, sym, ap, ◌∙◌}
+-- `format_table::table::some_outside` meets its contract. Assumes nothing.
+use mathlib.Core.Path.{refl, ◌∙◌}
 use mathlib.Core.Bool.{not}
-use native.Mathlib.Omega.{arith}
-use Rattle.lists.proofs.Scans.{above, counted_yes, counted_no, counted_end}
+use lib.Ieee.{nan}
+use lib.ListN.{take}
+use Rattle.std.proofs.Common.{rules, tests}
+use Rattle.std.proofs.lemmas.Iterator.{YieldsList-from_slice}
+use Rattle.std.proofs.lemmas.Iterator.Search.{any_from_yields_List}
+use Rattle.lists.proofs.Scans.{counted_any}
+use Rattle.format_fold.specs.Folds.{gain_in_range}
 use Rattle.format_table.proofs.Tables.{outside_counted}
 use Rattle.format_table.proofs.table.some_outside.Goals as goal
 
-pub loop-i-init : goal.loop-i-init
-loop-i-init c = (omega arith, refl)
-
-pub returns-then-not-in_range : goal.returns-then-not-in_range
-returns-then-not-in_range c =
-    sym (c.loop-i.invariant.1 ∙ counted_yes (outside_counted _) (above _ c.loop-i-test.true) (ap not (sym c.in_range.ensures ∙ c.if-not-in_range.true)))
-
-pub loop-i-preserved : goal.loop-i-preserved
-loop-i-preserved c =
-    (omega arith, c.loop-i.invariant.1 ∙ counted_no (outside_counted _) (above _ c.loop-i-test.true) (ap not (sym c.in_range.ensures ∙ c.if-not-in_range.false)))
-
 pub returns : goal.returns
-returns c = sym (c.loop-i.invariant.1 ∙ counted_end (outside_counted _) (omega arith))
+returns c =
+    let gains = c.args.gains.now in
+    any_from_yields_List (λ x. not (gain_in_range x)) _ _ c.any.result c.any.ensures.ran (YieldsList-from_slice (take c.args.n gains) cc) (λ x b q k. search (rules, tests))
+    ∙ counted_any (outside_counted gains) (λ x. not (gain_in_range x)) gains nan c.args.n c.requires (λ i h. refl)

@@ -1,8 +1,7 @@
 -- `insert_calls::wiring::add_patches` meets its contract: at k the Patches from k on are left to be made. Assumes nothing.
 use mathlib.Core.Path.{◌≡◌}
 use mathlib.Core.List.{List}
-use Prim.Native.Nat.{ℕ, ◌-◌, ◌≤◌}
-use lib.ListN.{length}
+use Prim.Native.Nat.{ℕ}
 use lib.Ieee.{Float}
 use Rattle.builder.specs.Built.{builder_state}
 use Rattle.insert.specs.Wiring.{patches}
@@ -12,10 +11,5 @@ use Rattle.insert_calls.proofs.wiring.add_patches.Given as goal
 
 abbrev pub invariant-loop-k : goal.invariant-loop-k
 invariant-loop-k l =
-    (l.k ≤ l.n)
-    × ((length l.steps ≡ length l.initial.steps)
-    × ((ix : List ℕ) (co fl : List Float) (wo : List ℕ)
-    → wired (builder_state l.grown ix co fl wo l.steps) (left l.input l.channel l.dst l.n l.k) ≡ wired (builder_state l.initial.grown ix co fl wo l.initial.steps) (patches l.input l.channel l.dst l.n)))
-
-abbrev pub decreases-loop-k : goal.decreases-loop-k
-decreases-loop-k l = l.n - l.k
+    (ix : List ℕ) (co fl : List Float) (wo : List ℕ)
+    → wired (builder_state l.builder.plan ix co fl wo l.steps) (left l.input l.channel l.dst l.n l.k) ≡ wired (builder_state l.initial.builder.plan ix co fl wo l.initial.steps) (patches l.input l.channel l.dst l.n)

@@ -9,22 +9,18 @@ use Rattle.builder.proofs.States.{step_state}
 use Rattle.insert.specs.Wiring.{gain_calls}
 use Rattle.insert_calls.specs.Loops.{wired}
 use Rattle.insert_calls.proofs.Parts.{wired_then}
-use Rattle.insert_calls.proofs.Wired.{few, sent_calls_lem}
+use Rattle.insert_calls.proofs.Wired.{sent_calls_lem}
 use Rattle.insert_calls.proofs.wiring.add_sent.Goals as goal
-
-pub add_gain-sent-requires : goal.add_gain-sent-requires
-add_gain-sent-requires c = few c.args.before c.args.insert c.channels-n.ensures
 
 pub returns : goal.returns
 returns c =
     λ co.
     let a = c.args in
-    let p = a.before in
+    let p = a.builder.now.plan in
     let i = a.insert in
     let n = c.channels-n.result in
-    let two = c.step-stepped in
     let rec : List ℕ = output_map ∷ p.indices ∷ n ∷ i.slot ∷ [] in
     let start : BuilderState = builder_state p a.indices.now co a.floats.now a.words.now a.steps.now in
-    wired_then start (gain_calls i.ids.send i.gain i.ramp p.nodes i.src (span p.indices n)) (step rec ∷ []) (c.add_gain-sent.ensures co)
-    (step_state unit_limits _ _ _ _ _ _ rec two.ensures.plan two.ensures.steps)
+    wired_then start (gain_calls i.ids.send i.gain i.ramp p.nodes i.src (span p.indices n)) (step rec ∷ []) (c.add_gain.ensures co)
+    (step_state unit_limits _ _ _ _ _ _ rec c.step.ensures.plan c.step.ensures.steps)
     ∙ ap (wired start) (sent_calls_lem p i c.channels-n.ensures)

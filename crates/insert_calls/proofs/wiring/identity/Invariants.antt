@@ -1,12 +1,9 @@
 -- `insert_calls::wiring::identity` meets its contract: at k the rows before k have their 1. Assumes nothing.
 use mathlib.Core.Path.{◌≡◌}
-use Prim.Native.Nat.{◌*◌, ◌-◌, ◌≤◌}
+use Prim.Native.Nat.{◌*◌}
 use lib.ListN.{length, take}
 use Rattle.insert.specs.Wiring.{diagonal}
 use Rattle.insert_calls.proofs.wiring.identity.Given as goal
 
 abbrev pub invariant-loop-k : goal.invariant-loop-k
-invariant-loop-k l = (l.k ≤ l.n) × ((length l.entries ≡ 144) × (take (l.n * l.n) l.entries ≡ diagonal l.n l.k))
-
-abbrev pub decreases-loop-k : goal.decreases-loop-k
-decreases-loop-k l = l.n - l.k
+invariant-loop-k l = (length l.entries ≡ 144) × (take (l.n * l.n) l.entries ≡ diagonal l.n l.k)

@@ -17,7 +17,7 @@ pub overflow_cast-p : goal.overflow_cast-p
 overflow_cast-p c = omega (arith, c.type_inv.src c.loop-c.c)
 
 pub overflow_mul-p : goal.overflow_mul-p
-overflow_mul-p c = omega (arith, c.requires.all_inside c.loop-c.c c.loop-c-test.true)
+overflow_mul-p c = omega (arith, c.requires.sources c.loop-c.c c.loop-c-test.true)
 
 pub overflow_mul-q : goal.overflow_mul-q
 overflow_mul-q c = omega (arith, ends_before {i = c.loop-c.c} {j = length c.args.src.now} c.args.block c.loop-c-test.true)
@@ -26,13 +26,13 @@ pub overflow_add-q : goal.overflow_add-q
 overflow_add-q c = omega (arith, ends_before {i = c.loop-c.c} {j = length c.args.src.now} c.args.block c.loop-c-test.true)
 
 pub overflow_add-p : goal.overflow_add-p
-overflow_add-p c = omega (arith, c.requires.all_inside c.loop-c.c c.loop-c-test.true)
+overflow_add-p c = omega (arith, c.requires.sources c.loop-c.c c.loop-c-test.true)
 
 pub offset_bounds-area-p : goal.offset_bounds-area-p
-offset_bounds-area-p c = omega (arith, c.requires.all_inside c.loop-c.c c.loop-c-test.true)
+offset_bounds-area-p c = omega (arith, c.requires.sources c.loop-c.c c.loop-c-test.true)
 
 pub slice_bounds-copy-end : goal.slice_bounds-copy-end
-slice_bounds-copy-end c = omega (arith, c.requires.all_inside c.loop-c.c c.loop-c-test.true)
+slice_bounds-copy-end c = omega (arith, c.requires.sources c.loop-c.c c.loop-c-test.true)
 
 pub overflow_add-q-in-loop-c : goal.overflow_add-q-in-loop-c
 overflow_add-q-in-loop-c c = omega (arith, ends_before {i = c.loop-c.c} {j = length c.args.src.now} c.args.block c.loop-c-test.true)

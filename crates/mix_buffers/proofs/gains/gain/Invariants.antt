@@ -2,12 +2,12 @@
 use mathlib.Core.Path.{◌≡◌}
 use Prim.Native.Nat.{◌-◌, ◌≤◌}
 use lib.ListN.{length, drop}
-use Rattle.node.specs.Nodes.{gain_at}
+use Rattle.node.specs.Rows.{gain_in}
 use Rattle.mix.specs.Mix.{gained}
 use Rattle.mix_buffers.proofs.gains.gain.Given as goal
 
 abbrev pub invariant-loop-c : goal.invariant-loop-c
-invariant-loop-c l = (l.c ≤ l.n) × (length l.area ≡ length l.initial.area) × (gained l.block (gain_at l.cur l.step l.target l.left) l.c (drop l.c l.src) (drop l.c l.dst) l.area ≡ gained l.block (gain_at l.cur l.step l.target l.left) 0 l.src l.dst l.initial.area)
+invariant-loop-c l = (l.c ≤ l.n) × (length l.area ≡ length l.initial.area) × (gained l.block (gain_in l.node) l.c (drop l.c l.src) (drop l.c l.dst) l.area ≡ gained l.block (gain_in l.node) 0 l.src l.dst l.initial.area)
 
 abbrev pub decreases-loop-c : goal.decreases-loop-c
 decreases-loop-c l = l.n - l.c

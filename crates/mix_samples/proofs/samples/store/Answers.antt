@@ -7,4 +7,4 @@ use Rattle.mix_samples.proofs.samples.store.Goals as goal
 pub returns : goal.returns
 returns c =
     let a = c.args in
-    part_stored (λ i. get_or a.t.now i nan) a.area.now a.to a.m c.requires.m_in_bounds.0 c.copy.ensures
+    part_stored (λ i. get_or a.t.now i nan) a.area.now a.to a.m c.requires.fits.0 c.copy.ensures

@@ -1,20 +1,20 @@
+-- `node::Node::with_target` meets its contract: the start of the values goes over that of target. Assumes nothing.
+use mathlib.Core.Path.{◌≡◌, ap}
+use mathlib.Core.List.{List}
 use native.Mathlib.Omega.{arith}
-use mathlib.Core.Path.{◌≡◌, refl}
+use lib.ListN.{length}
+use lib.Ieee.{Float}
 use borrow.Author.Rules.{rules}
-use Rattle.node.proofs.Loops.{target_more}
+use Rattle.node.specs.Sizes.{max_values}
+use Rattle.node.specs.Nodes.{changed}
+use Rattle.node.proofs.Loops.{start_upto}
 use Rattle.node.proofs.Node.with_target.Goals as goal
-
-pub loop-i-init : goal.loop-i-init
-loop-i-init c = (search rules, refl)
-
-pub loop-i-preserved : goal.loop-i-preserved
-loop-i-preserved c =
-    let l = c.loop-i in
-    let a = c.args in
-    (search rules, target_more l.self a.self a.values.now l.i l.invariant.1)
 
 pub returns : goal.returns
 returns c =
-    let l = c.loop-i in
-    let e : l.i ≡ c.smaller-n.result = omega arith in
-    rw (l.invariant.1, e, c.smaller-n.ensures)
+    let a = c.args in
+    let n = c.smaller-n in
+    let full : length a.self.target ≡ max_values = search rules in
+    ap (λ (t : List Float). changed a.self a.self.cur t a.self.step a.self.left)
+    (rw (c.copy_from_slice.ensures.after, n.ensures)
+    (start_upto _ a.values.now a.self.target (omega arith) (omega (arith, full, c.requires))))

@@ -5,5 +5,5 @@ pub run_steps-requires : goal.run_steps-requires
 run_steps-requires c = record {
   fit = c.requires.fit;
   ends = c.search_ends.ensures;
-  block_in_bounds = c.requires.block_in_bounds.0;
+  output_room = c.requires.output_room;
 }

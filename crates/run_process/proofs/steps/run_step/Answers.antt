@@ -18,41 +18,41 @@ use Rattle.run_process.proofs.steps.run_step.Goals as goal
 
 pub lookup_by_end-part-requires : goal.lookup_by_end-part-requires
 lookup_by_end-part-requires c =
-    let f = step_as c.in-Patch.is c.requires.fit_step.0 in
+    let f = step_as c.in-Patch.is c.requires.fit_step in
     (f.inside.0, c.requires.ends)
 
 pub patch-requires : goal.patch-requires
 patch-requires c =
-    let f = step_as c.in-Patch.is c.requires.fit_step.0 in
+    let f = step_as c.in-Patch.is c.requires.fit_step in
     buffer_inside c.args.plan.buffers c.args.plan.block _ c.args.buffers.now f.inside.1 f.fit.buffers
 
 pub run_gain-requires : goal.run_gain-requires
 run_gain-requires c =
-    let f = step_as c.in-Gain.is c.requires.fit_step.0 in record {
+    let f = step_as c.in-Gain.is c.requires.fit_step in record {
       node_fit = node_fit _ _ _ f.fit f.inside.0 f.inside.1 f.inside.2;
       narrow = (f.narrow, f.apart);
     }
 
 pub run_matrix-requires : goal.run_matrix-requires
 run_matrix-requires c =
-    let f = step_as c.in-Matrix.is c.requires.fit_step.0 in record {
+    let f = step_as c.in-Matrix.is c.requires.fit_step in record {
       node_fit = node_fit _ _ _ f.fit f.inside.0 f.inside.1 f.inside.2;
       narrow = (f.narrow, f.apart);
     }
 
 pub run_clear-requires : goal.run_clear-requires
 run_clear-requires c =
-    let f = step_as c.in-Clear.is c.requires.fit_step.0 in
+    let f = step_as c.in-Clear.is c.requires.fit_step in
     (f.inside, f.fit.buffers)
 
 pub weights-w-requires : goal.weights-w-requires
 weights-w-requires c =
-    let f = step_as c.in-Send.is c.requires.fit_step.0 in
+    let f = step_as c.in-Send.is c.requires.fit_step in
     omega (arith, f.inside.3, f.fit.weights)
 
 pub run_send-requires : goal.run_send-requires
 run_send-requires c =
-    let f = step_as c.in-Send.is c.requires.fit_step.0 in
+    let f = step_as c.in-Send.is c.requires.fit_step in
     let h : Within (length c.args.coefficients.now) c.in-Send.span = omega (arith, f.inside.3, f.fit.weights) in record {
       node_fit = node_fit _ _ _ f.fit f.inside.0 f.inside.1 f.inside.2;
       disjoint = (f.apart, weights_count c.args.coefficients.now _ _ h f.inside.4 c.weights-w.ensures);
@@ -61,9 +61,9 @@ run_send-requires c =
 pub run_output-requires : goal.run_output-requires
 run_output-requires c =
     let e = c.in-Output.is in
-    let f = step_as e c.requires.fit_step.0 in record {
+    let f = step_as e c.requires.fit_step in record {
       names = (f.inside.0, f.fit.buffers);
-      block_in_bounds = output_room _ _ _ _ _ e c.requires.fit_step.1;
+      block_in_bounds = output_room _ _ _ _ _ e c.requires.output_room;
     }
 
 pub returns-in-Output : goal.returns-in-Output

@@ -1,5 +1,4 @@
 -- `run_process::steps::run_steps` meets its contract. Assumes nothing.
-use Prim.Native.Nat.{◌-◌}
 use Rattle.input.specs.Input.{lookup}
 use Rattle.run.specs.Run.{state}
 use Rattle.run_process.proofs.Going.{Going}
@@ -8,6 +7,3 @@ use Rattle.run_process.proofs.steps.run_steps.Given as goal
 abbrev pub invariant-loop-i : goal.invariant-loop-i
 invariant-loop-i l =
     Going l.plan l.indices l.coefficients (lookup l.directory l.samples) l.steps (state l.initial.floats l.initial.words l.initial.buffers l.initial.output 0) l.at l.i (state l.floats l.words l.buffers l.output l.wrote)
-
-abbrev pub decreases-loop-i : goal.decreases-loop-i
-decreases-loop-i l = l.plan.steps - l.i

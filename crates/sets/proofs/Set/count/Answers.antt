@@ -1,33 +1,22 @@
--- `sets::Set::count` meets its contract. Assumes nothing.
-use Prim.Native.Nat.{◌+◌, ◌≤◌}
-use mathlib.Core.Path.{sym}
+use Prim.Native.Nat.{◌+◌, ◌^◌, ◌<◌}
+use mathlib.Core.Path.{sym, ap}
 use native.Mathlib.Omega.{arith}
 use borrow.Author.Rules.{rules}
-use lib.Count.{ones}
-use Rattle.sets.specs.Sets.{set_size}
-use Rattle.sets.proofs.Laws.{length_members_le}
-use Rattle.sets.proofs.Words.{Fits, length_members}
+use lib.ListN.{get_or, length}
+use Rattle.sets.proofs.Words.{front_none, count_more, front_few}
 use Rattle.sets.proofs.Set.count.Goals as goal
 
-pub overflow_add-result : goal.overflow_add-result
-overflow_add-result c =
-    let fits : Fits c.args.self = record { fits0 = search rules; fits1 = search rules; fits2 = search rules; fits3 = search rules } in
-    let few : ones c.args.self.w0 + ones c.args.self.w1 + ones c.args.self.w2 + ones c.args.self.w3 ≤ set_size = omega (arith, length_members c.args.self (fits), length_members_le c.args.self) in
-    omega (arith, few)
+pub loop-word-init : goal.loop-word-init
+loop-word-init c = sym (ap length (front_none c.args.self))
 
-pub overflow_add-result-2 : goal.overflow_add-result-2
-overflow_add-result-2 c =
-    let fits : Fits c.args.self = record { fits0 = search rules; fits1 = search rules; fits2 = search rules; fits3 = search rules } in
-    let few : ones c.args.self.w0 + ones c.args.self.w1 + ones c.args.self.w2 + ones c.args.self.w3 ≤ set_size = omega (arith, length_members c.args.self (fits), length_members_le c.args.self) in
-    omega (arith, few)
+pub overflow_add-total : goal.overflow_add-total
+overflow_add-total c =
+    let k = c.loop-word.word-index in
+    let fits : get_or c.args.self.words k 0 < 2 ^ 64 = search rules in
+    omega (arith, c.loop-word.invariant, c.loop-word-test.true, count_more c.args.self k fits, front_few c.args.self (k + 1))
 
-pub overflow_add-result-3 : goal.overflow_add-result-3
-overflow_add-result-3 c =
-    let fits : Fits c.args.self = record { fits0 = search rules; fits1 = search rules; fits2 = search rules; fits3 = search rules } in
-    let few : ones c.args.self.w0 + ones c.args.self.w1 + ones c.args.self.w2 + ones c.args.self.w3 ≤ set_size = omega (arith, length_members c.args.self (fits), length_members_le c.args.self) in
-    omega (arith, few)
-
-pub returns : goal.returns
-returns c =
-    let fits : Fits c.args.self = record { fits0 = search rules; fits1 = search rules; fits2 = search rules; fits3 = search rules } in
-    sym (length_members c.args.self (fits))
+pub loop-word-preserved : goal.loop-word-preserved
+loop-word-preserved c =
+    let k = c.loop-word.word-index in
+    let fits : get_or c.args.self.words k 0 < 2 ^ 64 = search rules in
+    omega (arith, c.loop-word.invariant, count_more c.args.self k fits)

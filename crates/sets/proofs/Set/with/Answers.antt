@@ -1,17 +1,20 @@
 -- `sets::Set::with` meets its contract. Assumes nothing.
+use Prim.Native.Nat.{ℕ, ◌*◌, ◌/◌, ◌%◌, ◌^◌}
 use mathlib.Core.Path.{◌≡◌, ap, ◌∙◌}
-use Rattle.sets.specs.declared.Set.{Set}
+use native.Mathlib.Nat.{one-mul}
+use native.Mathlib.Omega.{arith}
+use lib.Bits.{bit_or}
+use lib.ListN.{get_or, set}
+use lib.Pow.{shl_exact}
+use borrow.Author.Rules.{rules}
 use Rattle.sets.specs.Sets.{member}
-use Rattle.sets.proofs.Laws.{set, union, single, member_with}
+use Rattle.sets.proofs.Laws.{member_with}
 use Rattle.sets.proofs.Set.with.Goals as goal
 
 pub returns : goal.returns
 returns c j =
-    let o0 = c.only in
-    let o1 = c.only-2 in
-    let o2 = c.only-3 in
-    let o3 = c.only-4 in
-    let a = c.args.self in
-    let one : set o0.result o1.result o2.result o3.result ≡ single c.args.i =
-    λ k. record { w0 = o0.ensures k; w1 = o1.ensures k; w2 = o2.ensures k; w3 = o3.ensures k } in
-    ap (λ (b : Set). member (union a b) j) one ∙ member_with a c.args.i j c.requires
+    let i = c.args.i in
+    let words = c.args.self.words in
+    let exact : 1 * 2 ^ (i % 64) % 2 ^ 64 ≡ 2 ^ (i % 64) = shl_exact 1 (i % 64) 64 (omega arith) (omega arith) ∙ one-mul (2 ^ (i % 64)) in
+    ap (λ (more : ℕ). member (record { words = set words (i / 64) (bit_or (get_or words (i / 64) 0) more) }) j) exact
+    ∙ member_with c.args.self i (search rules) c.requires j

@@ -1,8 +1,7 @@
 -- `sets::Set::without` meets its contract. Assumes nothing.
+use borrow.Author.Rules.{rules}
 use Rattle.sets.proofs.Laws.{member_without}
 use Rattle.sets.proofs.Set.without.Goals as goal
 
 pub returns : goal.returns
-returns c =
-    let a = c.args in
-    member_without a.self a.other
+returns c = member_without c.args.self c.args.other (search rules) (search rules)

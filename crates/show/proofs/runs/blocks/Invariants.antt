@@ -6,7 +6,7 @@ use Rattle.show.proofs.runs.blocks.Given as goal
 
 abbrev pub invariant-loop-i : goal.invariant-loop-i
 invariant-loop-i l =
-    (l.i ≤ 750) × (length l.floats ≡ length l.initial.floats) × (length l.words ≡ length l.initial.words) × (length l.buffers ≡ length l.initial.buffers) × (length l.digests ≡ length l.initial.digests)
+    (l.i ≤ 750) × (length l.floats ≡ length l.initial.floats) × (length l.words ≡ length l.initial.words) × (length l.buffers ≡ length l.initial.buffers)
 
 abbrev pub decreases-loop-i : goal.decreases-loop-i
 decreases-loop-i l = 750 - l.i

@@ -1,35 +1,34 @@
 use mathlib.Core.Path.{◌∙◌}
+use Prim.Native.Nat.{◌<◌}
 use native.Mathlib.Omega.{arith}
-use lib.ListN.{get_or}
+use lib.ListN.{get_or, length, length-set}
 use Rattle.lists.proofs.Entries.{some_none}
 use Rattle.plan.specs.Limits.{unit_limits}
 use Rattle.trace_sources.specs.Loops.{joined}
-use Rattle.trace_sources.proofs.Stored.{changing_starts, changing_on, changing_ends, joined_twice, joined_stored}
+use Rattle.trace_sources.proofs.Stored.{changing_on, changing_ends, joined_twice, joined_stored}
+use Rattle.trace_sources.proofs.buffer_sets.add.Goals.{In-loop-b}
 use Rattle.trace_sources.proofs.buffer_sets.add.Goals as goal
 
-pub loop-k-init : goal.loop-k-init
-loop-k-init c = let a = c.args in changing_starts (joined a.set) (joined_twice a.set) a.area.now a.dst.now
+-- the buffer has a set
+room : (c : In-loop-b) → get_or c.args.dst.now c.loop-b.b-index 0 < length c.loop-b.area
+room c =
+    omega (arith, (some_none unit_limits.buffers c.args.dst.now).0 c.requires.0 c.loop-b.b-index c.loop-b-test.true, c.loop-b.invariant.kept ∙ c.requires.1)
 
-pub load-own-requires : goal.load-own-requires
-load-own-requires c =
-    omega (arith, (some_none unit_limits.buffers c.args.dst.now).0 c.requires.0 c.loop-k.k c.loop-k-test.true, c.loop-k.invariant.kept ∙ c.requires.1)
+pub slice_copy_out-own : goal.slice_copy_out-own
+slice_copy_out-own c = room (goal.at.slice_copy_out-own c).In-loop-b
 
-pub store-requires : goal.store-requires
-store-requires c =
-    omega (arith, (some_none unit_limits.buffers c.args.dst.now).0 c.requires.0 c.loop-k.k c.loop-k-test.true, c.loop-k.invariant.kept ∙ c.requires.1)
+pub bounds-area-b : goal.bounds-area-b
+bounds-area-b c = room (goal.at.bounds-area-b c).In-loop-b
 
-pub loop-k-preserved : goal.loop-k-preserved
-loop-k-preserved c =
+pub loop-b-preserved : goal.loop-b-preserved
+loop-b-preserved c =
     let a = c.args in
-    let t = c.store in
-    let d = get_or a.dst.now c.loop-k.k 0 in
-    changing_on (joined a.set) (joined_twice a.set) c.loop-k.invariant t.new.area c.loop-k-test.true t.auto.area
-    (joined_stored c.loop-k.area t.new.area d a.set c.load-own.result c.union.result c.load-own.ensures c.union.ensures t.ensures)
-
-pub shape_of-area : goal.shape_of-area
-shape_of-area c = c.loop-k.invariant.kept
+    let area = c.loop-b.area in
+    let b = get_or a.dst.now c.loop-b.b-index 0 in
+    changing_on (joined a.set) (joined_twice a.set) c.loop-b.invariant _ c.loop-b-test.true (length-set area b c.union.result)
+    (joined_stored area b a.set c.union.result (room (goal.at.loop-b-preserved c).In-loop-b) c.union.ensures)
 
 pub returns : goal.returns
 returns c =
     let a = c.args in
-    changing_ends (joined a.set) (joined_twice a.set) c.loop-k.invariant c.loop-k-test.false
+    changing_ends (joined a.set) (joined_twice a.set) c.loop-b.invariant c.loop-b-test.false

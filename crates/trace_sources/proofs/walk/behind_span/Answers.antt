@@ -1,17 +1,10 @@
 -- `trace_sources::walk::behind_span` meets its contract. Assumes nothing.
 use mathlib.Core.Path.{ap, ◌∙◌}
-use mathlib.Core.List.{List}
-use Prim.Native.Nat.{ℕ}
 use Rattle.lists.specs.Entries.{some_from}
 use Rattle.plan.specs.Limits.{unit_limits}
 use Rattle.plan.proofs.Spans.{names_low}
-use Rattle.trace.specs.Sources.{union}
-use Rattle.trace_sources.specs.Loops.{sources_of}
 use Rattle.trace_sources.proofs.walk.behind_span.Goals as goal
 
 pub union_of-requires : goal.union_of-requires
 union_of-requires c =
-    (ap (some_from unit_limits.buffers) c.numbers.ensures ∙ names_low c.args.plan c.args.indices.now c.args.src c.requires.0 c.requires.1.buffers, c.requires.1.words)
-
-pub returns : goal.returns
-returns c i = c.union_of.ensures i ∙ ap (λ (l : List ℕ). union (sources_of c.args.area.now) l i) c.numbers.ensures
+    (ap (some_from unit_limits.buffers) c.numbers.ensures ∙ names_low c.args.plan c.args.indices.now c.args.src c.requires.0 c.requires.1.buffers, c.requires.1.sets)

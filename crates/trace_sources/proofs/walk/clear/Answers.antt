@@ -10,7 +10,7 @@ use Rattle.trace_sources.proofs.walk.clear.Goals as goal
 
 pub give-requires : goal.give-requires
 give-requires c =
-    (ap (some_from unit_limits.buffers) c.numbers.ensures ∙ names_low c.args.plan c.args.indices.now c.args.dst c.requires.0 c.requires.1.buffers, c.requires.1.words)
+    (ap (some_from unit_limits.buffers) c.numbers.ensures ∙ names_low c.args.plan c.args.indices.now c.args.dst c.requires.0 c.requires.1.buffers, c.requires.1.sets)
 
 pub returns : goal.returns
 returns c =

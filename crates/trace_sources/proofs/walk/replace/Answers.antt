@@ -11,7 +11,7 @@ use Rattle.trace_sources.proofs.walk.replace.Goals as goal
 
 pub give-requires : goal.give-requires
 give-requires c =
-    (ap (some_from unit_limits.buffers) c.numbers.ensures ∙ names_low c.args.plan c.args.indices.now c.args.dst c.requires.targets c.requires.room.buffers, c.requires.room.words)
+    (ap (some_from unit_limits.buffers) c.numbers.ensures ∙ names_low c.args.plan c.args.indices.now c.args.dst c.requires.targets c.requires.room.buffers, c.requires.room.sets)
 
 pub returns : goal.returns
 returns c =

@@ -12,7 +12,7 @@ use Rattle.trace_sources.proofs.walk.send.Goals as goal
 
 pub add-requires : goal.add-requires
 add-requires c =
-    (ap (some_from unit_limits.buffers) c.numbers.ensures ∙ names_low c.args.plan c.args.indices.now c.args.dst c.requires.targets c.requires.room.buffers, c.requires.room.words)
+    (ap (some_from unit_limits.buffers) c.numbers.ensures ∙ names_low c.args.plan c.args.indices.now c.args.dst c.requires.targets c.requires.room.buffers, c.requires.room.sets)
 
 pub returns : goal.returns
 returns c =

@@ -1,10 +1,6 @@
 -- `trace_sources::walk::walk` meets its contract. Assumes nothing.
-use Prim.Native.Nat.{◌-◌}
 use Rattle.trace_sources.proofs.Walking.{Walking}
 use Rattle.trace_sources.proofs.walk.walk.Given as goal
 
 abbrev pub invariant-loop-i : goal.invariant-loop-i
 invariant-loop-i l = Walking l.plan l.indices l.steps l.initial.area l.initial.slots l.area l.slots l.count l.at l.i
-
-abbrev pub decreases-loop-i : goal.decreases-loop-i
-decreases-loop-i l = l.n - l.i

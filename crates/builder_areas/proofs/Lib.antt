@@ -1,0 +1,2 @@
+-- a part of an area that is written whole
+pub mod Slices

@@ -1,0 +1,2 @@
+-- What the builder's first call answers.
+pub mod New

@@ -1,9 +1,0 @@
--- `cases::answers::samples` meets its contract: what is left of the n falls with each turn. Assumes nothing.
-use Rattle.std.proofs.Common.{◌-◌}
-use Rattle.cases.proofs.answers.samples.Given as goal
-
-abbrev pub invariant-loop-i : goal.invariant-loop-i
-invariant-loop-i l = Unit {0}
-
-abbrev pub decreases-loop-i : goal.decreases-loop-i
-decreases-loop-i l = l.n - l.i

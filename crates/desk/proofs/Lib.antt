@@ -1,2 +1,0 @@
--- laws of drafts and gains
-pub mod Laws

@@ -1,0 +1,2 @@
+-- turns of a list of ids
+pub mod Ids

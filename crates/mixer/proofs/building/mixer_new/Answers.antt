@@ -1,9 +1,0 @@
--- `mixer::building::mixer_new` meets its contract. Assumes nothing.
-use mathlib.Core.Path.{◌∙◌}
-use Rattle.mixer_replies.specs.Replies.{plan_reply}
-use Rattle.mixer.proofs.building.mixer_new.Goals as goal
-
-pub returns : goal.returns
-returns c =
-    let e = c.new-made.ensures in
-    c.plan_reply.ensures ∙ (λ i. plan_reply (e.1 i) (e.0 i))

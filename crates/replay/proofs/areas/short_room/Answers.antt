@@ -1,6 +1,0 @@
--- `replay::areas::short_room` meets its contract: by a law, since computing the list would be long. Assumes nothing.
-use Rattle.replay.proofs.Fronts.{zeros}
-use Rattle.replay.proofs.areas.short_room.Goals as goal
-
-pub returns : goal.returns
-returns c = zeros 8200
