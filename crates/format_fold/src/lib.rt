@@ -171,8 +171,9 @@ fn divided(mut m: Matrix, by: f64) -> Matrix
     m
 }
 
-// A mapping from 3.0 or wider into fewer channels, divided, where asked, by its largest row sum, if that is above 1. Requires at most 12 rows
-// and columns.
+// A mapping from 3.0 or wider into fewer channels, divided, where asked, by its largest row sum, if that is above 1. Not inlined, so that its
+// copies of the matrix are not on the stack while the mapping folds. Requires at most 12 rows and columns.
+#[inline(never)]
 fn normalised(m: Matrix, rows: usize, columns: usize, normalise: bool) -> Matrix
     requires { (rows ≤ 12) × (columns ≤ 12) }
     ensures { result.entries ≡ normalised normalise rows columns m.entries }
