@@ -17,12 +17,19 @@ const MAX_ENTRIES: usize = 512;
 // A place for each input.
 pub const ENDS: usize = Step::INPUTS as usize;
 
-// The samples from `start` on, `len` at most.
+// The samples from `start` on, `len` at most. Cut by `min`, and searched by `rev` below, they made a Patch slower by a third and more.
 fn part(samples: &[f32], start: usize, len: usize) -> &[f32]
     ensures { result.now ≡ part start len samples.now }
 {
-    let rest = &samples[start.min(samples.len())..];
-    &rest[..len.min(rest.len())]
+    let n = samples.len();
+    if n <= start {
+        return &samples[n..];
+    }
+    if n - start <= len {
+        return &samples[start..];
+    }
+    let end = start + len;
+    &samples[start..end]
 }
 
 // For each input a place from which on no entry is for it: the one behind its last entry, or 0 where it has none. Requires a directory that is
@@ -74,10 +81,13 @@ fn lookup_below<'a>(
     requires { n ≤ entries directory.now }
     ensures { result.now ≡ lookup_below directory.now samples.now input channel n }
 {
-    for entry in (0..n).rev() {
-        if entry_for(directory, entry, input, channel) {
-            return entry_part(directory, samples, entry);
+    let mut left = n;
+    while left > 0 {
+        let i = left - 1;
+        if entry_for(directory, i, input, channel) {
+            return entry_part(directory, samples, i);
         }
+        left -= 1;
     }
     &samples[0..0]
 }

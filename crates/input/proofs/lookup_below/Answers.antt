@@ -1,18 +1,23 @@
-use mathlib.Core.Path.{sym, ◌∙◌}
+use mathlib.Core.Path.{◌≡◌, refl, sym, ◌∙◌}
+use Prim.Native.Nat.{suc, ◌-◌}
 use native.Mathlib.Omega.{arith}
-use Rattle.lists.proofs.Scans.{above}
 use Rattle.input.proofs.Input.{looked_yes, looked_no, looked_none}
 use Rattle.input.proofs.lookup_below.Goals as goal
 
+pub loop-left-init : goal.loop-left-init
+loop-left-init c = (omega arith, refl)
+
 pub returns-then-entry_for : goal.returns-then-entry_for
 returns-then-entry_for c =
-    let l = c.loop-entry in
-    c.entry_part.ensures ∙ sym (l.invariant ∙ looked_yes _ _ _ _ (above l.entry (omega arith)) (sym c.entry_for.ensures ∙ c.if-entry_for.true))
+    let l = c.loop-left in
+    let e : l.left ≡ suc (l.left - 1) = omega (arith, c.loop-left-test.true) in
+    c.entry_part.ensures ∙ sym (l.invariant.1 ∙ looked_yes _ _ _ _ e (sym c.entry_for.ensures ∙ c.if-entry_for.true))
 
-pub loop-entry-preserved : goal.loop-entry-preserved
-loop-entry-preserved c =
-    let l = c.loop-entry in
-    l.invariant ∙ looked_no _ _ _ _ (above l.entry (omega arith)) (sym c.entry_for.ensures ∙ c.if-entry_for.false)
+pub loop-left-preserved : goal.loop-left-preserved
+loop-left-preserved c =
+    let l = c.loop-left in
+    let e : l.left ≡ suc (l.left - 1) = omega (arith, c.loop-left-test.true) in
+    (omega arith, l.invariant.1 ∙ looked_no _ _ _ _ e (sym c.entry_for.ensures ∙ c.if-entry_for.false))
 
 pub returns : goal.returns
-returns c = sym (c.loop-entry.invariant ∙ looked_none _ _ _ _ (omega arith))
+returns c = sym (c.loop-left.invariant.1 ∙ looked_none _ _ _ _ (omega arith))
