@@ -4,13 +4,13 @@ use mathlib.Core.Path.{◌≡◌, refl, sym, ap, ap₂, ◌∙◌}
 use mathlib.Core.Bool.{Bool, true, false, cond, ◌&&◌, true≢false}
 use mathlib.Core.List.{List, [], ◌∷◌, map}
 use native.Mathlib.Omega.{arith}
-use native.Mathlib.Nat.{add-suc, add-zero, zero-add, suc-add}
+use native.Mathlib.Nat.{add-suc, add-zero, suc-add}
 use native.Mathlib.Numerals.{add-one}
 use lib.Dec.{eqb}
 use lib.ListN.{length, take, drop, get_or, drop_of_length-le, length-map}
 use lib.Seq.{drop-cons}
 use borrow.Author.Tests.{eqb-true, eq-eqb, ne_eqb}
-use Rattle.std.specs.Prelude.{Option, None, Some}
+use Rattle.std.specs.Prelude.{None, Some}
 use Rattle.comparison.specs.Lists.{alike, compared}
 
 -- The first i entries of both are alike, so what is left decides.
@@ -25,9 +25,6 @@ alike_nil f [] = refl
 alike_nil f (x ∷ xs) = refl
 
 module _ {A : Type 0} (f : A → ℕ) (xs : List ℕ) (ys : List A) where
-  pub alike_none : AlikeTo f xs ys 0
-  alike_none = record { first = omega arith; second = omega arith; left = sym (zero-add (alike f xs ys)) }
-
   module _ (i : ℕ) (a : AlikeTo f xs ys i) where
     -- where nothing that is left is alike
     at_end : alike f (drop i xs) (drop i ys) ≡ 0 → i ≡ alike f xs ys

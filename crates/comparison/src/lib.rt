@@ -51,18 +51,16 @@ fn ending(i: usize, n: usize, m: usize) -> Option<usize>
     Some(i)
 }
 
-// How many entries are alike, from the front on.
+// How many entries are alike, from the front on. The place itself answers, also where `here` ends first, so the loop has it.
 fn alike_count<T: Entry>(reference: &[u32], here: &[T]) -> usize
     ensures { result ≡ alike T.word_of reference.now here.now }
 {
-    let mut i = 0;
-    while i < reference.len() && i < here.len() {
-        if reference[i] != here[i].word() {
+    for (i, &word) in reference.iter().enumerate() {
+        if i >= here.len() || word != here[i].word() {
             return i;
         }
-        i += 1;
     }
-    i
+    reference.len()
 }
 
 // The first place where two lists differ, if there is one: a list that ends differs there from one that goes on.

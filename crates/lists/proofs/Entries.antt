@@ -11,7 +11,7 @@ use lib.ListN.{length, get_or, take, length-take}
 use lib.Seq.{get_or-take}
 use borrow.Author.Tests.{leb-false, eqb-false, lt-leb, ne_eqb}
 use Rattle.lists.specs.Entries.{some_from, has, meet, Disjoint}
-use Rattle.lists.proofs.Bools.{or_some, or_left, or_right}
+use Rattle.std.proofs.lemmas.Bool.{or_cases, or_left, or_right}
 use Rattle.lists.proofs.Scans.{some_listed, has_listed, meet_listed, listed_at, listed_none}
 
 -- ---- an entry that is n or above
@@ -51,7 +51,7 @@ pub has_front : (n : ℕ) (xs : List ℕ) (x : ℕ) → has (take n xs) x ≡ tr
 unfolding has
 has_front zero xs x e = absurd (false≢true e)
 has_front (suc n) [] x e = e
-has_front (suc n) (y ∷ ys) x e = go (has_front n ys x) (or_some (eqb y x) (has (take n ys) x) e)
+has_front (suc n) (y ∷ ys) x e = go (has_front n ys x) (or_cases (eqb y x) (has (take n ys) x) e)
   where
     go : (has (take n ys) x ≡ true → has ys x ≡ true) → (eqb y x ≡ true) ⊎ (has (take n ys) x ≡ true) → (eqb y x || has ys x) ≡ true
     go more (inl p) = or_left (eqb y x) (has ys x) p

@@ -7,9 +7,8 @@ use native.Mathlib.Numerals.{add-one}
 use native.Mathlib.Omega.{arith}
 use native.Mathlib.Decide.{ℕ_discrete}
 use lib.ListN.{length, get_or, take, drop, set, length-set}
-use lib.Seq.{take_all, get_or-set_same, get_or-set_other, get_or-take, get_or-drop, ext_get_or}
-use Rattle.lists.specs.Parts.{part, upto}
-use Rattle.lists.proofs.Stores.{length_part}
+use lib.Seq.{take_all, get_or-set_same, get_or-set_other}
+use Rattle.lists.specs.Parts.{upto}
 
 -- ---- f of each of a list's elements in front of another
 
@@ -64,16 +63,3 @@ module _ {A : Type 0} (f : ℕ → A) where
       go : Dec (i ≡ n) → (i < n → get_or (upto n f xs) i d ≡ f i) → get_or (set (upto n f xs) n (f n)) i d ≡ f i
       go (yes e) ih = rw e (get_or-set_same (upto n f xs) n (f n) d (omega (arith, length_upto n xs)))
       go (no e) ih = get_or-set_other (upto n f xs) n i (f n) d e ∙ ih (omega arith)
-
--- a part that is read place by place
-pub upto_part : {A : Type 0} (k n : ℕ) (xs zs : List A) (d : A) → k + n ≤ length xs → length zs ≡ n → upto n (λ (i : ℕ). get_or xs (k + i) d) zs ≡ part k n xs
-upto_part {A} k n xs zs d h e =
-    ext_get_or d (upto n f zs) (part k n xs) (length_upto f n zs ∙ e ∙ sym (length_part k n xs h)) each
-  where
-    f : ℕ → A
-    f i = get_or xs (k + i) d
-
-    each : (i : ℕ) → i < length (upto n f zs) → get_or (upto n f zs) i d ≡ get_or (part k n xs) i d
-    each i l =
-        let l' : i < n = omega (arith, length_upto f n zs) in
-        upto_at f n zs i d l' (omega arith) ∙ sym (get_or-take n (drop k xs) i d l' ∙ get_or-drop k xs i d)

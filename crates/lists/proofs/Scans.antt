@@ -1,7 +1,7 @@
 -- Tests of one entry after another, `t x || ..`: a turn of the loop that works one out, and what it says where it does not hold.
 -- Assumes nothing.
 use mathlib.Core.Path.{◌≡◌, refl, sym, ap, ◌∙◌}
-use mathlib.Core.Bool.{Bool, true, false, ◌||◌}
+use mathlib.Core.Bool.{Bool, true, false, ◌||◌, or_comm}
 use mathlib.Core.List.{List, [], ◌∷◌}
 use mathlib.Core.Logic.{⊎_elim}
 use Prim.Native.Nat.{ℕ, zero, suc, ◌+◌, ◌-◌, ◌<◌, ◌≤◌}
@@ -14,13 +14,7 @@ use lib.Dec.{leb, eqb}
 use Rattle.std.specs.List.{list_any}
 use Rattle.std.proofs.lemmas.List.Folds.{list_any_more}
 use Rattle.lists.specs.Entries.{some_from, has, meet}
-use Rattle.lists.proofs.Bools.{or_none}
-
-or_swap : (a b : Bool) → (a || b) ≡ (b || a)
-or_swap true true = refl
-or_swap true false = refl
-or_swap false true = refl
-or_swap false false = refl
+use Rattle.std.proofs.lemmas.Bool.{or_parts}
 
 -- ---- of the entries of a list, first to last
 pub record Listed (f : List ℕ → Bool) (t : ℕ → Bool) : Type 0 where
@@ -32,19 +26,13 @@ module _ {f : List ℕ → Bool} {t : ℕ → Bool} (l : Listed f t) where
     pub listed_here : f (drop i xs) ≡ (t (get_or xs i 0) || f (drop (i + 1) xs))
     listed_here = rw (add-one, drop-cons xs i 0 h) (l.more (get_or xs i 0) (drop (suc i) xs))
 
-    pub listed_yes : t (get_or xs i 0) ≡ true → f (drop i xs) ≡ true
-    listed_yes e = listed_here ∙ rw e
-
-    pub listed_no : t (get_or xs i 0) ≡ false → f (drop i xs) ≡ f (drop (i + 1) xs)
-    listed_no e = listed_here ∙ rw e
-
   pub listed_end : (xs : List ℕ) (i : ℕ) → i ≡ length xs → f (drop i xs) ≡ false
   listed_end xs i e = ap (λ (k : ℕ). f (drop k xs)) e ∙ ap f (drop-length xs) ∙ l.none
 
   pub listed_at : (xs : List ℕ) → f xs ≡ false → (i : ℕ) → i < length xs → t (get_or xs i 0) ≡ false
   listed_at [] e i h = absurd (not-suc-le-zero h)
-  listed_at (x ∷ xs) e zero h = (or_none (t x) (f xs) (sym (l.more x xs) ∙ e)).0
-  listed_at (x ∷ xs) e (suc i) h = listed_at xs (or_none (t x) (f xs) (sym (l.more x xs) ∙ e)).1 i (le_of_suc-le-suc h)
+  listed_at (x ∷ xs) e zero h = (or_parts (t x) (f xs) (sym (l.more x xs) ∙ e)).0
+  listed_at (x ∷ xs) e (suc i) h = listed_at xs (or_parts (t x) (f xs) (sym (l.more x xs) ∙ e)).1 i (le_of_suc-le-suc h)
 
   pub listed_none : (xs : List ℕ) → ((i : ℕ) → i < length xs → t (get_or xs i 0) ≡ false) → f xs ≡ false
   listed_none [] all = l.none
@@ -86,7 +74,7 @@ module _ {f t : ℕ → Bool} (c : Counted f t) where
   pub counted_at : (n : ℕ) → f n ≡ false → (i : ℕ) → i < n → t i ≡ false
   counted_at zero e i h = absurd (not-suc-le-zero h)
   counted_at (suc n) e i h =
-      let b = or_none (t n) (f n) (sym (c.more n) ∙ e) in
+      let b = or_parts (t n) (f n) (sym (c.more n) ∙ e) in
       ⊎_elim (λ p. ap t p ∙ b.0) (λ p. counted_at n b.1 i p) (eq-or-lt_of_le (le_of_suc-le-suc h))
 
   pub counted_none : (n : ℕ) → ((i : ℕ) → i < n → t i ≡ false) → f n ≡ false
@@ -100,7 +88,7 @@ module _ {f t : ℕ → Bool} (c : Counted f t) where
   counted_any p xs d (suc n) h each =
       rw (← add-one)
       (list_any_more p xs n d (omega arith)
-      ∙ or_swap (list_any p (take n xs)) (p (get_or xs n d))
+      ∙ or_comm (list_any p (take n xs)) (p (get_or xs n d))
       ∙ ap (λ (b : Bool). b || list_any p (take n xs)) (each n (omega arith))
       ∙ ap (λ (b : Bool). t n || b) (counted_any p xs d n (omega arith) (λ (i : ℕ) (l : i < n). each i (omega arith)))
       ∙ sym (c.more n)

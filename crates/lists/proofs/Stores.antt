@@ -7,7 +7,7 @@ use mathlib.Core.Logic.{◌⊎◌, inl, inr, ⊎_elim}
 use mathlib.Core.Path.{◌≡◌, refl, sym, ap, ◌∙◌}
 use mathlib.Core.List.{List, [], ◌∷◌, ◌++◌, append_assoc}
 use lib.ListN.{length, set, get_or, take, drop, length-take, length-drop, length-set, length-append}
-use lib.Seq.{get_or-set_same, get_or-set_other, take-nil, take-suc, take-take, length-take-le, take-set-le, drop-set-lt, take_at, take_all, drop_at, set_comm, sets, sets-eq, length-sets}
+use lib.Seq.{get_or-set_same, get_or-set_other, take-nil, take-suc, take-take, length-take-le, take-set-le, drop-set-lt, take_at, take_all, drop_at, set_comm, sets, sets-eq}
 use Rattle.lists.specs.Parts.{part}
 
 module _ {A : Type 0} where
@@ -43,9 +43,6 @@ module _ {A : Type 0} where
   pub stores_turn : {area : List A} (l row : List A) (k i : ℕ) (d : A) {v : A} → area ≡ sets l k (take i row) → i < length row → v ≡ get_or row i d
       → set area (k + i) v ≡ sets l k (take (i + 1) row)
   stores_turn l row k i d e h p = rw (e, p) (sets_more l k i row d h)
-
-  pub stores_length : {area : List A} (l row : List A) (k i : ℕ) → area ≡ sets l k (take i row) → length area ≡ length l
-  stores_length l row k i e = ap length e ∙ length-sets l k (take i row)
 
   pub stores_all : {area : List A} (l row : List A) (k i : ℕ) → area ≡ sets l k (take i row) → length row ≤ i → area ≡ sets l k row
   stores_all l row k i e h = e ∙ ap (sets l k) (take_all i row h)

@@ -1,19 +1,12 @@
-// Lists: their parts, stores and entries as definitions with their laws, and the functions on counts and lists that several crates share.
+// Lists: their parts, stores and entries as definitions with their laws, and the function on lists that several crates share.
 // All of it is for the crates above and not the interface: a function that has a `requires` says in its comment what it takes.
 #![tactic(auto)]
 
-ghost use Rattle.std.specs.Prelude.{◌≡◌, ◌+◌, ◌≤◌, min, length};
+ghost use Rattle.std.specs.Prelude.{◌≡◌, ◌+◌, ◌≤◌, length};
 ghost use Rattle.std.proofs.lemmas.List.Edits.{sets};
 
-// The lesser of two counts.
-pub fn smaller(a: usize, b: usize) -> usize
-    ensures { result ≡ min a b }
-{
-    if a < b { a } else { b }
-}
-
 // The values, stored from place `at` on. Requires room for them.
-pub fn put_floats(values: &[f32], at: usize, area: &mut [f32])
+pub fn put<T: Copy>(values: &[T], at: usize, area: &mut [T])
     requires { at + length values.now ≤ length area.old }
     ensures { area.new ≡ sets area.old at values.now }
 {

@@ -1,7 +1,6 @@
 -- The test of number 14: what it lets pass, node by node, and that each call and a store keep to it. Assumes nothing.
 use Prim.Native.Nat.{ℕ, zero, suc, ◌+◌, ◌*◌, ◌<◌, ◌≤◌}
 use native.Mathlib.Nat.{not-suc-le-zero}
-use native.Mathlib.Numerals.{add-one}
 use native.Mathlib.Omega.{arith}
 use native.Mathlib.Decide.{dec_lt, ℕ_discrete}
 use mathlib.Core.Path.{◌≡◌, refl, sym, ◌∙◌}
@@ -80,10 +79,6 @@ pub none_bad_at : (words : List ℕ) (count : ℕ) → some_bad words count ≡ 
     → InRange (node_at floats words i)
 unfolding node_at
 none_bad_at words count e floats i h = good_in_range (node_at floats words i) (good_at words count e i h)
-
-pub none_bad_more : (words : List ℕ) (n : ℕ) → some_bad words n ≡ false → bad_at words n ≡ false → some_bad words (n + 1) ≡ false
-unfolding some_bad
-none_bad_more words n e t = rw (add-one, e, t)
 
 pub some_bad_lem : (words : List ℕ) (count i : ℕ) → i < count → bad_at words i ≡ true → some_bad words count ≡ true
 some_bad_lem words count i h t = go (some_bad words count) refl

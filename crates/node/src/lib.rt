@@ -7,8 +7,7 @@ ghost use Rattle.node.specs.Sizes.{max_values, max_ramp};
 ghost use Rattle.node.specs.Rows.{Values, gain_in};
 ghost use Rattle.node.specs.Nodes.{with_target, at_target, start_ramp, new_node, set_node, finish_block, gain_from, gain_of, ramping, factor};
 
-use lists::smaller;
-
+// Document 01's form: three rows by value, a length and a count.
 #[derive(Clone, Copy)]
 pub struct Node {
     pub id: u32,
@@ -20,7 +19,7 @@ pub struct Node {
     pub step: [f32; Node::MAX],
     // The samples of the ramp that are left; at 0 the node is at rest.
     pub left: u32,
-    // Where it is not 0, no adoption touches the node: at most MAX_SAFE, but for a bad node of the lent areas.
+    // Where it is not 0, no adoption touches the node: at most MAX_SAFE, but for a bad node of the lent areas, of which it is a word.
     pub safe: u32,
 }
 
@@ -58,6 +57,7 @@ impl Node {
     // In samples: an f32 holds every whole number up to it.
     pub const MAX_RAMP: u32 = 16_777_216;
 
+    // The greatest word safe, which numbers no kind.
     pub const MAX_SAFE: u32 = 1;
 
     // A node at zero, set to `values`. Requires a ramp that is not too long.
@@ -68,7 +68,7 @@ impl Node {
         let zeros = [0.0f32; Node::MAX];
         let node = Node {
             id,
-            len: smaller(values.len(), Node::MAX) as u32,
+            len: values.len().min(Node::MAX) as u32,
             cur: zeros,
             target: zeros,
             step: zeros,
@@ -95,7 +95,7 @@ impl Node {
         requires { self.len ≤ max_values }
         ensures { result ≡ with_target self values.now }
     {
-        let n = smaller(self.len as usize, values.len());
+        let n = (self.len as usize).min(values.len());
         let mut target = self.target;
         target[..n].copy_from_slice(&values[..n]);
         self.target = target;
@@ -117,6 +117,7 @@ impl Node {
         ensures { result ≡ start_ramp self ramp }
     {
         let end = self.len as usize;
+        // One index over three rows of the same node, of which one is written.
         for i in 0..end {
             self.step[i] = (self.target[i] - self.cur[i]) / ramp as f32;
         }
@@ -132,12 +133,13 @@ impl Node {
         if self.left == 0 {
             return self;
         }
-        let n = smaller(block, self.left as usize) as u32;
+        let n = block.min(self.left as usize) as u32;
         self.left = self.left - n;
         if self.left == 0 {
             return self.at_target();
         }
         let len = self.len as usize;
+        // One index over two rows of the same node, of which one is written.
         for i in 0..len {
             self.cur[i] = self.cur[i] + self.step[i] * n as f32;
         }

@@ -24,6 +24,9 @@ const SAFE: usize = 3;
 
 // ---- what the areas hold of node n. Each requires an area that reaches past the node.
 
+// The two areas are lent as they are, each with its own length, so a function here and below gets them beside the node's number or the plan's count.
+
+// These are lent the words alone: a struct of both areas would ask for the floats too.
 pub fn id_of(words: &[u32], n: usize) -> u32
     requires { (n + 1) * node_word_count ≤ length words.now }
     ensures { result ≡ id_at words.now n }
@@ -62,6 +65,7 @@ pub fn cur_of(floats: &[f32], n: usize) -> &[f32]
 }
 
 // The rows of node n. Requires areas that reach past it.
+// C lends the two areas one by one: that they reach past the node is a clause of each function, here and below.
 pub fn rows_of<'a>(floats: &'a [f32], words: &[u32], n: usize) -> Rows<'a>
     requires { Room (n + 1) floats.now words.now }
     ensures cur { result.cur.now ≡ cur_at floats.now n }
@@ -78,7 +82,7 @@ pub fn rows_of<'a>(floats: &'a [f32], words: &[u32], n: usize) -> Rows<'a>
     }
 }
 
-// ---- a whole node
+// ---- a whole node, copied out of its areas and into them, whose rows and words lie in an order of their own
 
 // Requires floats that reach past the row.
 fn load_row(floats: &[f32], at: usize) -> [f32; Node::MAX]
@@ -145,6 +149,7 @@ fn advance(floats: &mut [f32], at: usize, len: usize, m: u32)
     requires { (at + node_float_count ≤ length floats.old) × (len ≤ max_values) × (m ≤ max_ramp) }
     ensures { floats.new ≡ sets floats.old at (cur_row floats.old at m len) }
 {
+    // One index over two rows of one area, of which one is written.
     for i in 0..len {
         floats[at + i] = floats[at + i] + floats[at + STEP + i] * m as f32;
     }

@@ -3,8 +3,12 @@
 #![tactic(auto)]
 
 ghost use Rattle.std.specs.Prelude.{◌≡◌, Some, None};
+ghost use Rattle.std.specs.Fmt.{decimal};
 ghost use Rattle.refusal.specs.Numbers.{number};
 ghost use Rattle.refusal.specs.Tests.{refusal};
+
+use std::fmt;
+use std::fmt::Display;
 
 // The reasons of document 01's section "Who can be refused, and why", and of the requests, in their words: `specs/Numbers.antt` has them.
 #[derive(Clone, Copy, Debug, PartialEq, Eq)]
@@ -55,6 +59,15 @@ impl Reason {
         ensures { result ≡ number self }
     {
         self as u32
+    }
+}
+
+// The number.
+impl Display for Reason {
+    ghost output = { λ reason. Some (decimal (number reason)) };
+
+    fn fmt<W: fmt::Write>(&self, f: &mut fmt::Formatter<W>) -> fmt::Result {
+        self.number().fmt(f)
     }
 }
 

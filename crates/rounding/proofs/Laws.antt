@@ -5,10 +5,10 @@ use mathlib.Core.Logic.{inl, inr, ◌↔◌}
 use mathlib.Core.Bool.{Bool, true, false, not, ◌&&◌, ◌||◌, true≢false}
 use Prim.Native.Nat.{ℕ, ◌+◌, ◌-◌, ◌*◌, ◌/◌, ◌^◌, ◌≤◌, ◌<◌}
 use lib.Dec.{T, eqb, eqb→eq, lit≤}
-use lib.Ieee.{Float, nan, inf, fin, Format, binary32, binary64, size, round, neg, le, ne, fits, is_nan, of_bits, to_bits}
+use lib.Ieee.{Float, nan, inf, fin, Format, binary32, binary64, size, round, neg, div, le, ne, fits, is_nan, of_bits, to_bits}
 use lib.Ieee.Fits.{and_l, and_r, eq→eqb, cond-fits, nan-fits, neg-fits, fits_widens}
 use lib.Ieee.Bits.{of_bits-to_bits, of_bits-fits, nan_bits_is, is_true}
-use lib.Ieee.Compare.{nan_differs}
+use lib.Ieee.Compare.{nan_differs, differs_from_itself}
 use lib.Ieee.Exact.{HasValue}
 use lib.Ieee.Scale.{grid, finite}
 use Rattle.rounding.specs.Narrow.{narrowed_bits, narrowed, rounded, same_float}
@@ -37,6 +37,11 @@ unfolding is_nan
 no_nan nan h = absurd (true≢false (sym nan_differs ∙ h))
 no_nan (inf s) h = tt
 no_nan (fin s m e) h = tt
+
+-- What differs from itself is one, of which the code makes 0 / 0.
+pub nan_made : (x : Float) → ne x x ≡ true → narrowed x ≡ div binary32 (of_bits binary32 0) (of_bits binary32 0)
+unfolding narrowed div of_bits is_nan
+nan_made x e = ap narrowed (differs_from_itself x (subst T (sym e) tt))
 
 -- It is a NaN exactly for a NaN.
 pub narrowed_nan : narrowed nan ≡ nan

@@ -17,6 +17,7 @@ const SIGN_32: u64 = 0x8000_0000;
 const INFINITY_32: u64 = 0x7f80_0000;
 
 // The whole number nearest to m / u; of two that are as near, the even one. Requires an m below 2^53, and a u from 1 to 2^53.
+#[tactic(auto, using(crate::proofs::Closest::closest_low, crate::proofs::Closest::closest_tie, crate::proofs::Closest::closest_high))]
 fn nearest(m: u64, u: u64) -> u64
     requires { (m < 2 ^ 53) × (0 < u) × (u ≤ 2 ^ 53) }
     ensures { result ≡ closest m u }
@@ -33,6 +34,7 @@ fn nearest(m: u64, u: u64) -> u64
 }
 
 // The bits of the f32 nearest to the f64 whose bits are a, both without their sign.
+#[tactic(auto, using(crate::proofs::Pattern::cases, crate::proofs::Closest::closest_le))]
 fn magnitude(a: u64) -> u64
     ensures { result ≡ pattern (a / 2 ^ 52) (2 ^ 52 + a % 2 ^ 52) }
 {
@@ -54,6 +56,7 @@ fn magnitude(a: u64) -> u64
 }
 
 // x rounded to the nearest f32, a tie to the even one. A NaN gives a NaN, and what is too large an infinity.
+#[tactic(auto, using(crate::proofs::Pattern::bits_made, crate::proofs::Laws::no_nan, crate::proofs::Laws::nan_made))]
 pub fn to_f32(x: f64) -> f32
     ensures { result ≡ narrowed x }
 {

@@ -14,7 +14,8 @@ pub struct Set {
 }
 
 // Writes the members that one word holds, whose lowest bit is the number `base`, to `out` from `at` on, and returns the place after them.
-// Requires a base of one of the four words, and room for the members.
+// Requires a base of one of the four words, and room for the members. The bits are taken by trailing zeros, as document 01 names it, and not counted:
+// hence the `while`.
 fn list_word(word: u64, base: u16, at: usize, out: &mut [u16]) -> usize
     requires { (base ≤ 192) × (at + length (places base 64 word) ≤ length out.old) }
     ensures { (result ≡ at + length (places base 64 word)) × (out.new ≡ sets out.old at (places base 64 word)) }

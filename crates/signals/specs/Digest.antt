@@ -20,6 +20,10 @@ with_word digest word =
 unfoldable pub with_sample : ℕ → Float → ℕ
 with_sample digest x = with_word digest (to_bits binary32 x)
 
+-- the entries of a list, by the word of each
+abbrev pub of_entries : {A : Type 0} → (A → ℕ) → ℕ → List A → ℕ
+of_entries word digest list = foldl (λ d x. with_word d (word x)) digest list
+
 abbrev pub of_words : ℕ → List ℕ → ℕ
 of_words digest words = foldl with_word digest words
 

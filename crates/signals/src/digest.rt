@@ -1,9 +1,9 @@
 // A digest of samples: the 32-bit FNV-1a of their bytes, each sample's lowest byte first. Any file of the samples has it too.
 ghost use Rattle.std.specs.Prelude.{◌≡◌, ◌/◌, ◌<◌, length};
-ghost use Rattle.signals.specs.Digest.{start, with_byte, with_word, with_sample, of_words, of_samples, with_frame, with_frames};
+ghost use Rattle.signals.specs.Digest.{start, with_byte, with_word, with_sample, of_entries, of_words, of_samples, with_frame, with_frames};
 
 use crate::BLOCK;
-use comparison::floats;
+use comparison::Entry;
 
 const START: u32 = 0x811c_9dc5;
 
@@ -28,6 +28,7 @@ fn with_byte(digest: u32, byte: u32) -> u32
     (wide(digest ^ byte) * PRIME % 0x1_0000_0000) as u32
 }
 
+#[tactic(auto, unfolding(crate::specs::Digest::with_word))]
 fn with_word(digest: u32, word: u32) -> u32
     ensures { result ≡ with_word digest word }
 {
@@ -37,41 +38,46 @@ fn with_word(digest: u32, word: u32) -> u32
     with_byte(third, word / 16_777_216)
 }
 
-fn with_sample(digest: u32, x: f32) -> u32
-    ensures { result ≡ with_sample digest x }
+// The words of a list's entries. A sample's is its bits.
+fn of_entries<T: Entry>(digest: u32, list: &[T]) -> u32
+    ensures { result ≡ of_entries T.word_of digest list.now }
 {
-    with_word(digest, floats::bits_of(x))
+    let mut digest = digest;
+    for x in list {
+        digest = with_word(digest, x.word());
+    }
+    digest
 }
 
 pub fn of_words(digest: u32, list: &[u32]) -> u32
     ensures { result ≡ of_words digest list.now }
 {
-    let mut digest = digest;
-    for &word in list {
-        digest = with_word(digest, word);
-    }
-    digest
+    of_entries(digest, list)
 }
 
+#[tactic(auto, unfolding(crate::specs::Digest::with_sample))]
 pub fn of_samples(digest: u32, list: &[f32]) -> u32
     ensures { result ≡ of_samples digest list.now }
 {
-    let mut digest = digest;
-    for &x in list {
-        digest = with_sample(digest, x);
-    }
-    digest
+    of_entries(digest, list)
+}
+
+#[tactic(auto, unfolding(crate::specs::Digest::with_sample))]
+fn with_sample(digest: u32, x: f32) -> u32
+    ensures { result ≡ with_sample digest x }
+{
+    with_word(digest, x.word())
 }
 
 // Sample k of each channel of a slot, whose blocks stand one after the other. Requires a sample of a block.
+#[tactic(auto, using(crate::proofs::Laws::going_starts))]
 fn with_frame(digest: u32, blocks: &[f32], k: usize) -> u32
     requires { k < 256 }
     ensures { result ≡ with_frame 256 digest blocks.now k (length blocks.now / 256) }
 {
-    let channels = blocks.len() / BLOCK;
     let mut digest = digest;
-    for c in 0..channels {
-        digest = with_sample(digest, blocks[c * BLOCK + k]);
+    for block in blocks.chunks_exact(BLOCK) {
+        digest = with_sample(digest, block[k]);
     }
     digest
 }

@@ -41,22 +41,26 @@ fn signal(pitch: u32, k: u32) -> f32
 }
 
 // A block of one channel from sample `from` on, stored from a place on. Requires room for it, and samples that a u32 counts.
+#[tactic(auto, using(crate::proofs::Laws::filled_kept))]
 fn fill(pitch: u32, from: u32, at: usize, samples: &mut [f32])
     requires { (from + 256 < 4294967296) × (at + 256 ≤ length samples.old) }
     ensures { samples.new ≡ filled pitch from at 256 samples.old }
 {
+    // k is the sample's number too, so that an iterator would count it all the same.
     for k in 0..BLOCK {
         samples[at + k] = signal(pitch, from + k as u32);
     }
 }
 
 // A block of every channel, one after the other. Requires room for them, and samples that a u32 counts.
+// The number of a sample is handed on as it is: that a u32 counts it is a clause here and in each caller.
+#[tactic(auto, using(crate::proofs::Laws::played_kept))]
 pub fn play(from: u32, samples: &mut [f32])
     requires { (from + 256 < 4294967296) × (length samples.old ≡ 4096) }
     ensures { samples.new ≡ played 256 from 16 samples.old }
 {
-    for c in 0..CHANNELS {
-        fill(PITCH[c], from, c * BLOCK, samples);
+    for (c, &pitch) in PITCH.iter().enumerate() {
+        fill(pitch, from, c * BLOCK, samples);
     }
 }
 
@@ -65,11 +69,8 @@ pub fn directory(entries: &mut [u32])
     requires { length entries.old ≡ 64 }
     ensures { entries.new ≡ entered 256 16 entries.old }
 {
-    for c in 0..CHANNELS {
-        let at = c * 4;
-        entries[at] = INPUT[c];
-        entries[at + 1] = CHANNEL[c];
-        entries[at + 2] = (c * BLOCK) as u32;
-        entries[at + 3] = BLOCK as u32;
+    for (c, &input) in INPUT.iter().enumerate() {
+        let entry = [input, CHANNEL[c], (c * BLOCK) as u32, BLOCK as u32];
+        entries[c * 4..c * 4 + 4].copy_from_slice(&entry);
     }
 }

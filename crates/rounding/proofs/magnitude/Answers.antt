@@ -6,16 +6,12 @@ use native.Mathlib.Omega.{arith}
 use lib.Dec.{lit<}
 use lib.Pow.{pow_pos, pow_mono, shl_exact}
 use lib.Ieee.Nearest.{closest}
-use Rattle.rounding.proofs.Closest.{closest_le}
-use Rattle.rounding.proofs.Pattern.{pattern_none, pattern_low, pattern_mid, pattern_top}
+use Rattle.rounding.proofs.Pattern.{pattern_low}
 use Rattle.rounding.proofs.magnitude.Goals as goal
 
 -- 1 << d
 shifted : (d : ℕ) → 1 + d ≤ 64 → 1 * 2 ^ d % 2 ^ 64 ≡ 2 ^ d
 shifted d h = shl_exact 1 d 64 (lit< tt) h ∙ one-mul (2 ^ d)
-
-pub returns-then-field-lt873 : goal.returns-then-field-lt873
-returns-then-field-lt873 c = sym (pattern_none _ _ c.if-field-lt873.true)
 
 pub nearest-requires : goal.nearest-requires
 nearest-requires c =
@@ -30,14 +26,3 @@ returns-then-field-lt897 c =
     c.nearest.ensures
     ∙ ap (closest (2 ^ 52 + a % 2 ^ 52)) (shifted (926 - a / 2 ^ 52) (omega arith))
     ∙ sym (pattern_low _ _ c.if-field-lt873.false c.if-field-lt897.true)
-
-pub overflow_add-result : goal.overflow_add-result
-overflow_add-result c = omega (arith, c.nearest-then-field-lt1151.ensures, closest_le (2 ^ 52 + c.args.a % 2 ^ 52) 24 29 (omega arith))
-
-pub returns-then-field-lt1151 : goal.returns-then-field-lt1151
-returns-then-field-lt1151 c =
-    ap (λ (q : ℕ). (c.args.a / 2 ^ 52 - 897) * 2 ^ 23 + q) c.nearest-then-field-lt1151.ensures
-    ∙ sym (pattern_mid _ _ c.if-field-lt897.false c.if-field-lt1151.true)
-
-pub returns : goal.returns
-returns c = sym (pattern_top _ _ c.if-field-lt1151.false)

@@ -13,7 +13,7 @@ returns-then-self-eq0 c = sym (finish_rest _ _ c.if-self-eq0.true)
 pub returns-then-self-eq0-2 : goal.returns-then-self-eq0-2
 returns-then-self-eq0-2 c =
     let a = c.args in
-    let m = c.smaller-n in
+    let m = c.min-n in
     c.at_target.ensures ∙ finish_end a.self a.block m.result c.if-self-eq0.false m.ensures c.if-self-eq0-2.true
 
 pub loop-i-init : goal.loop-i-init
@@ -25,14 +25,14 @@ int_to_float-self c = exact _ (omega arith)
 pub loop-i-preserved : goal.loop-i-preserved
 loop-i-preserved c =
     let a = c.args in
-    let m = c.smaller-n.result in
+    let m = c.min-n.result in
     let l = c.loop-i in
     (search rules, cur_more l.self (new_left a.self (a.self.left - m)) m l.i l.invariant.1)
 
 pub returns : goal.returns
 returns c =
     let a = c.args in
-    let m = c.smaller-n in
+    let m = c.min-n in
     let l = c.loop-i in
     finish_on l.self a.self a.block m.result l.i
     c.if-self-eq0.false m.ensures c.if-self-eq0-2.false l.invariant.1 (omega arith)

@@ -9,4 +9,4 @@ pub returns : goal.returns
 unfolding new_node of_bits of_int
 returns c =
     let a = c.args in
-    c.set.ensures ∙ ap (λ (l : ℕ). set_node (zero_node a.id l a.safe) a.values.now a.ramp) c.smaller.ensures
+    c.set.ensures ∙ ap (λ (l : ℕ). set_node (zero_node a.id l a.safe) a.values.now a.ramp) c.min.ensures

@@ -13,7 +13,7 @@ use Rattle.node.proofs.Node.with_target.Goals as goal
 pub returns : goal.returns
 returns c =
     let a = c.args in
-    let n = c.smaller-n in
+    let n = c.min-n in
     let full : length a.self.target ≡ max_values = search rules in
     ap (λ (t : List Float). changed a.self a.self.cur t a.self.step a.self.left)
     (rw (c.copy_from_slice.ensures.after, n.ensures)

@@ -1,12 +1,8 @@
--- `signals::digest::with_frame` meets its contract. The loop's invariant: the first c channels are in. Assumes nothing.
-use Prim.Native.Nat.{◌-◌, ◌/◌, ◌≤◌}
+-- `signals::digest::with_frame` meets its contract. The loop's invariant: the blocks before those left are in. Assumes nothing.
 use mathlib.Core.Path.{◌≡◌}
-use lib.ListN.{length}
-use Rattle.signals.specs.Digest.{with_frame}
+use Rattle.std.specs.Slice.Iter.{chunks_exact_rest, chunks_exact_size}
+use Rattle.signals.proofs.Laws.{Going}
 use Rattle.signals.proofs.digest.with_frame.Given as goal
 
-abbrev pub invariant-loop-c : goal.invariant-loop-c
-invariant-loop-c l = (l.c ≤ l.channels) × (l.channels ≡ length l.blocks / 256) × (l.digest ≡ with_frame 256 l.digest-2 l.blocks l.k l.c)
-
-abbrev pub decreases-loop-c : goal.decreases-loop-c
-decreases-loop-c l = l.channels - l.c
+abbrev pub invariant-loop-block : goal.invariant-loop-block
+invariant-loop-block l = (chunks_exact_size l.block-iterator ≡ 256) × Going l.digest-2 l.blocks l.k (chunks_exact_rest l.block-iterator) l.digest

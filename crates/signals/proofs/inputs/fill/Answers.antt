@@ -4,9 +4,8 @@ use native.Mathlib.Numerals.{add-one}
 use native.Mathlib.Omega.{arith}
 use mathlib.Core.List.{List}
 use lib.Ieee.{Float}
-use lib.ListN.{length, set}
+use lib.ListN.{set}
 use Rattle.signals.specs.Signals.{filled}
-use Rattle.signals.proofs.Laws.{filled_length}
 use borrow.Author.Rules.{rules}
 use Rattle.signals.proofs.inputs.fill.Goals as goal
 
@@ -14,23 +13,11 @@ pub loop-k-init : goal.loop-k-init
 unfolding filled
 loop-k-init c = (search rules, refl)
 
-pub bounds-samples-at : goal.bounds-samples-at
-bounds-samples-at c =
-    let kept : length c.loop-k.samples ≡ length c.args.samples.now = let a = c.args in
-    ap length c.loop-k.invariant.1 ∙ filled_length a.pitch a.from a.at c.loop-k.k a.samples.now in
-    omega (arith, kept)
-
 pub loop-k-preserved : goal.loop-k-preserved
 unfolding filled
 loop-k-preserved c =
     let a = c.args in
     (omega arith, rw (add-one c.loop-k.k) (ap (λ (l : List Float). set l (a.at + c.loop-k.k) c.signal.result) c.loop-k.invariant.1 ∙ ap (set (filled a.pitch a.from a.at c.loop-k.k a.samples.now) (a.at + c.loop-k.k)) c.signal.ensures))
-
-pub shape_of-samples : goal.shape_of-samples
-shape_of-samples c =
-    let kept : length c.loop-k.samples ≡ length c.args.samples.now = let a = c.args in
-    ap length c.loop-k.invariant.1 ∙ filled_length a.pitch a.from a.at c.loop-k.k a.samples.now in
-    kept
 
 pub returns : goal.returns
 returns c =

@@ -1,11 +1,11 @@
--- `lists::put_floats` meets its contract: what was copied over a part is a run of stores from the part's first place on. Assumes nothing.
+-- `lists::put` meets its contract: what was copied over a part is a run of stores from the part's first place on. Assumes nothing.
 use Prim.Native.Nat.{ℕ, ◌+◌, ◌-◌, ◌≤◌}
 use mathlib.Core.Path.{◌≡◌, sym, ap, ◌∙◌}
 use mathlib.Core.List.{List, ◌++◌, append_assoc}
 use native.Mathlib.Omega.{arith}
 use lib.ListN.{length, take, drop}
 use lib.Seq.{sets, sets-eq, drop-drop}
-use Rattle.lists.proofs.put_floats.Goals as goal
+use Rattle.lists.proofs.put.Goals as goal
 
 copied : {A : Type 0} (l xs vs : List A) (k n : ℕ) → xs ≡ vs → n ≡ length vs → k + length vs ≤ length l → take k l ++ (xs ++ drop n (drop k l)) ≡ sets l k vs
 copied l xs vs k n e m h =
@@ -15,6 +15,6 @@ copied l xs vs k n e m h =
     ∙ sym (sets-eq vs l k h ∙ append_assoc (take k l) vs (drop (k + length vs) l))
 
 pub returns : goal.returns
-returns c =
+returns g c =
     let n : c.args.at + length c.args.values.now - c.args.at ≡ length c.args.values.now = omega arith in
     copied c.args.area.now _ c.args.values.now c.args.at _ c.copy_from_slice.ensures.after n (omega arith)
