@@ -4,6 +4,8 @@
 ghost use Rattle.std.specs.Prelude.{◌≡◌};
 ghost use Rattle.format.specs.Formats.{labels, channels, label_of, index_of, has};
 
+// Document 01 hands formats and labels about as numbers: hence constants, and no enum.
+
 // The labels: mono, left, right, centre, low-frequency effects, surround, side, rear, top front, top rear.
 pub const M: u32 = 0;
 
@@ -80,6 +82,7 @@ impl Format {
     pub const MAX_CHANNELS: usize = 12;
 
     // The labels of a format in channel order: none where there is no such format.
+    #[tactic(auto, using(crate::proofs::Labels::no_format_lem), unfolding(crate::specs::Formats::labels))]
     pub fn labels(format: u32) -> &'static [u32]
         ensures { result.now ≡ labels format }
     {
@@ -96,6 +99,7 @@ impl Format {
     }
 
     // How many channels a format has: none where there is no such format.
+    #[tactic(auto, unfolding(crate::specs::Formats::channels))]
     pub fn channels(format: u32) -> usize
         ensures { result ≡ channels format }
     {
@@ -103,6 +107,7 @@ impl Format {
     }
 
     // The label of a channel, `NO_LABEL` where the format has no such channel.
+    #[tactic(auto, unfolding(crate::specs::Formats::label_of))]
     pub fn label(format: u32, channel: usize) -> u32
         ensures { result ≡ label_of format channel }
     {
@@ -122,6 +127,7 @@ impl Format {
     }
 
     // Whether one of the format's channels has the label.
+    #[tactic(auto, unfolding(crate::specs::Formats::has))]
     pub fn has(format: u32, label: u32) -> bool
         ensures { result ≡ has format label }
     {

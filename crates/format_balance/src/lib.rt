@@ -4,7 +4,7 @@
 ghost use Rattle.std.specs.Prelude.{◌≡◌, ◌≤◌, ◌++◌, length, drop};
 ghost use Rattle.format.specs.Formats.{channels};
 ghost use Rattle.format_balance.specs.Balance.{side};
-ghost use Rattle.format_balance.specs.Balance.{finite, clamp, at_most_one, left_gain, right_gain, balance_gains, of_side, gains_of, balance_answer, balance_area, width_in, stereo_matrix};
+ghost use Rattle.format_balance.specs.Balance.{bad_balance, at_most_one, left_gain, right_gain, balance_gains, of_side, gains_of, balance_answer, balance_area, width_in, stereo_matrix};
 
 use format::{Format, NO_LABEL};
 use refusal::{Answer, Reason, Refusal};
@@ -13,6 +13,7 @@ use refusal::{Answer, Reason, Refusal};
 const SIDE: [u32; 15] = [0, 1, 2, 0, 0, 1, 2, 1, 2, 1, 2, 1, 2, 1, 2];
 
 // 1 for a left label, 2 for a right one, 0 for any other.
+#[tactic(auto, unfolding(crate::specs::Balance::side))]
 fn side(label: u32) -> u32
     ensures { result ≡ side label }
 {
@@ -22,51 +23,41 @@ fn side(label: u32) -> u32
     SIDE[label as usize]
 }
 
-fn finite(x: f64) -> bool
-    ensures { result ≡ finite x }
+// A NaN or an infinity.
+fn bad_balance(b: f64) -> bool
+    ensures { result ≡ bad_balance b }
 {
-    if x < 1.0 / 0.0 {
-        return -1.0 / 0.0 < x;
-    }
-    false
+    !b.is_finite()
 }
 
-// The balance within -1 to 1.
-fn clamped(b: f64) -> f64
-    ensures { result ≡ clamp b }
-{
-    if b < -1.0 {
-        return -1.0;
-    }
-    if 1.0 < b {
-        return 1.0;
-    }
-    b
-}
-
+// Not `min`, which may give either of two that compare equal.
+#[tactic(auto, unfolding(crate::specs::Balance::at_most_one))]
 fn at_most_one(x: f64) -> f64
     ensures { result ≡ at_most_one x }
 {
     if x < 1.0 { x } else { 1.0 }
 }
 
+#[tactic(auto, unfolding(crate::specs::Balance::left_gain))]
 fn left_gain(b: f64) -> f64
     ensures { result ≡ left_gain b }
 {
-    at_most_one(1.0 - clamped(b))
+    at_most_one(1.0 - b.clamp(-1.0, 1.0))
 }
 
+#[tactic(auto, unfolding(crate::specs::Balance::right_gain))]
 fn right_gain(b: f64) -> f64
     ensures { result ≡ right_gain b }
 {
-    at_most_one(1.0 + clamped(b))
+    at_most_one(1.0 + b.clamp(-1.0, 1.0))
 }
 
 // The gains of the left and of the right channels at the balance b: -1 left only, 0 both, 1 right only.
+#[tactic(auto, unfolding(crate::specs::Balance::balance_gains))]
 pub fn balance_gains(b: f64) -> Result<(f64, f64), Refusal>
     ensures { result ≡ balance_gains b }
 {
-    if !finite(b) {
+    if bad_balance(b) {
         return Err(Reason::OutOfRange.into());
     }
     let gl = left_gain(b);
@@ -74,6 +65,7 @@ pub fn balance_gains(b: f64) -> Result<(f64, f64), Refusal>
     Ok((gl, gr))
 }
 
+#[tactic(auto, unfolding(crate::specs::Balance::of_side))]
 fn of_side(l: f32, r: f32, side: u32) -> f32
     ensures { result ≡ of_side l r side }
 {
@@ -87,6 +79,7 @@ fn of_side(l: f32, r: f32, side: u32) -> f32
 }
 
 // A gain for each of the format's channels, by its side. Requires room for them.
+#[tactic(auto, using(lists::proofs::Filled::filled_more, lists::proofs::Filled::filled_all), unfolding(crate::specs::Balance::gains_of, format::specs::Formats::channels))]
 fn put_gains(format: u32, left: f32, right: f32, out: &mut [f32])
     requires { channels format ≤ length out.old }
     ensures { out.new ≡ gains_of left right format ++ drop (channels format) out.old }
@@ -97,13 +90,14 @@ fn put_gains(format: u32, left: f32, right: f32, out: &mut [f32])
 }
 
 // The gain of each channel of a format at the balance b, written to the front of `out`.
+#[tactic(auto, unfolding(crate::specs::Balance::balance_answer, crate::specs::Balance::balance_area))]
 pub fn balance_of(format: u32, b: f64, out: &mut [f32]) -> Answer
     ensures { (result ≡ balance_answer format b (length out.old)) × (out.new ≡ balance_area format b out.old) }
 {
     if Format::COUNT <= format {
         return Err(Reason::NoFormat.into());
     }
-    if !finite(b) {
+    if bad_balance(b) {
         return Err(Reason::OutOfRange.into());
     }
     if out.len() < Format::channels(format) {
@@ -116,23 +110,22 @@ pub fn balance_of(format: u32, b: f64, out: &mut [f32]) -> Answer
 }
 
 // From -2 to 2.
+#[tactic(auto, unfolding(crate::specs::Balance::width_in))]
 fn width_in(w: f64) -> bool
     ensures { result ≡ width_in w }
 {
-    if -2.0 <= w {
-        return w <= 2.0;
-    }
-    false
+    -2.0 <= w && w <= 2.0
 }
 
 // The stereo width w (0 mono, 1 unchanged, 2 twice the side signal), then the balance b.
+#[tactic(auto, unfolding(crate::specs::Balance::stereo_matrix))]
 pub fn stereo_matrix(w: f64, b: f64) -> Result<[f64; 4], Refusal>
     ensures { result ≡ stereo_matrix w b }
 {
     if !width_in(w) {
         return Err(Reason::OutOfRange.into());
     }
-    if !finite(b) {
+    if bad_balance(b) {
         return Err(Reason::OutOfRange.into());
     }
     let gl = left_gain(b);

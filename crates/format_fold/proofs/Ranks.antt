@@ -139,3 +139,7 @@ module _ (g : FoldGains) (d c s : ℕ) (hd : d < 7) where
       ∙ through_same d (rank d l) (folded 3 g d c s) (folded 4 g d c s)
       (λ j hj r. enough 3 4 j hj (lt_of_lt_of_le r (rank_le d l hd hl)) (omega (arith, lt_of_lt_of_le r (rank_le d l hd hl))))
       (folds_to g d l) (falls d l hd hl g e) x m
+
+-- ---- what the code goes by
+
+pub ruleset turns = (present, onward, has_is, lacks_is, falls, into_lower, left_lower, right_lower)

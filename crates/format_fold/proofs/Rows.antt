@@ -1,6 +1,6 @@
 -- One turn of each loop over the matrix, as the definitions have it. Assumes nothing.
 use mathlib.Core.Path.{◌≡◌, refl, sym, ap, ◌∙◌}
-use mathlib.Core.List.{List, ◌++◌}
+use mathlib.Core.List.{List, [], ◌∷◌, ◌++◌}
 use Prim.Native.Nat.{ℕ, zero, suc, ◌+◌, ◌*◌, ◌<◌, ◌≤◌}
 use native.Mathlib.Nat.{suc-mul, zero-mul, mul-le-mul}
 use native.Mathlib.Omega.{arith}
@@ -31,6 +31,12 @@ row_fits i n k hi hn hk = let h : suc i ≤ 12 = omega arith in omega (arith, pl
 
 pub cell : (i n s k : ℕ) → i < n → n ≤ 12 → s < k → k ≤ 12 → i * k + s < 144
 cell i n s k hi hn hs hk = omega (arith, row_fits i n k hi hn hk)
+
+-- a front is no longer than it was asked to be
+pub front_length : (n : ℕ) (xs : List Float) → length (take n xs) ≤ n
+front_length zero xs = omega arith
+front_length (suc n) [] = omega arith
+front_length (suc n) (x ∷ xs) = omega (arith, front_length n xs)
 
 -- ---- the rows
 
@@ -85,3 +91,5 @@ rows_end k a left most h r = go r.count r.size r.leads
     go : (n : ℕ) → length left ≡ n * k → largest a k n left ≡ most → a ≡ most
     go zero s m = m
     go (suc n) s m = absurd (omega (arith, suc-mul n k))
+
+pub ruleset row_steps = (places, rows_start, rows_turn, rows_end)

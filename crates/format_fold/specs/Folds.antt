@@ -99,7 +99,7 @@ abbrev pub turnings : List ℕ
 turnings = 1 ∷ 0 ∷ 0 ∷ 1 ∷ 1 ∷ 1 ∷ 1 ∷ 2 ∷ 2 ∷ 2 ∷ 2 ∷ 1 ∷ 1 ∷ 2 ∷ 2 ∷ []
 
 -- The rank of a label: how often it can be turned before the format d has it. It is 0 where d has the label, one more where d is mono, and
--- falls at each turn (`falls` of proofs/Ranks.antt), so it is the measure of the recursion of `format_fold::fold`.
+-- falls at each turn (`falls` of proofs/Ranks.antt), so it is the measure of the recursion of `format_fold::Column::fold`.
 unfoldable pub rank : ℕ → ℕ → ℕ
 unfolding has
 rank d l = cond (has d l) 0 (get_or turnings l 0 + cond (eqb d 0) 1 0)

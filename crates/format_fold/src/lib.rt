@@ -28,7 +28,7 @@ pub struct Matrix {
     pub entries: [f64; 144],
 }
 
-// The labels that a label turns into where the destination lacks it, each with its gain.
+// The labels that a label turns into where the destination lacks it, each with its gain: none, one or two, so that no case of Option or Result fits.
 #[derive(Clone, Copy)]
 pub enum Targets {
     Nothing,
@@ -46,6 +46,7 @@ pub fn in_range(g: f64) -> bool
     g <= 16.0 && !g.is_sign_negative()
 }
 
+#[tactic(auto, unfolding(crate::specs::Folds::gains_in_range))]
 fn gains_in_range(g: FoldGains) -> bool
     ensures { result ≡ gains_in_range g }
 {
@@ -68,6 +69,7 @@ fn first_had(dst: u32, a: u32, x: f64, b: u32, y: f64) -> Targets
 }
 
 // What a label turns into that the format dst lacks.
+#[tactic(auto, unfolding(crate::specs::Folds::folds_to))]
 fn folds_to(label: u32, dst: u32, g: FoldGains) -> Targets
     ensures { result ≡ folds_to g dst label }
 {
@@ -101,50 +103,73 @@ fn folds_to(label: u32, dst: u32, g: FoldGains) -> Targets
     }
 }
 
-// Column s of m with the label added at the gain x: to its entry where dst has the label, else through what it turns into. Requires a label, a
-// format, and a column of at most 12.
-fn fold(label: u32, dst: u32, x: f64, g: FoldGains, columns: usize, s: usize, m: Matrix) -> Matrix
-    requires { (label < 15) × ((dst < 7) × ((s < columns) × (columns ≤ 12))) }
-    ensures { result.entries ≡ folded depth g dst columns s label x m.entries }
-{
-    let d = Format::index(dst, label);
-    if d < Format::channels(dst) {
-        let at = d * columns + s;
-        let mut sum = m;
-        sum.entries[at] = sum.entries[at] + x;
-        return sum;
-    }
-    match folds_to(label, dst, g) {
-        Targets::Nothing => m,
-        Targets::One(to, by) => fold(to, dst, x * by, g, columns, s, m),
-        Targets::Two(l, by_l, r, by_r) => {
-            let first = fold(l, dst, x * by_l, g, columns, s, m);
-            fold(r, dst, x * by_r, g, columns, s, first)
+// A column of the mapping into the format dst: the place s of so many.
+#[derive(Clone, Copy)]
+struct Column {
+    dst: u32,
+    gains: FoldGains,
+    columns: usize,
+    s: usize,
+    ghost fits: { (dst < 7) × ((s < columns) × (columns ≤ 12)) },
+}
+
+impl Column {
+    // m with the label added at the gain x: to its entry where dst has the label, else through what it turns into. Requires a label.
+    #[tactic(auto, using(crate::proofs::Ranks::turns, crate::proofs::Rows::cell, format::proofs::Labels::channels_le))]
+    fn fold(self, label: u32, x: f64, m: Matrix) -> Matrix
+        requires { label < 15 }
+        ensures { result.entries ≡ folded depth self.gains self.dst self.columns self.s label x m.entries }
+    {
+        let d = Format::index(self.dst, label);
+        if d < Format::channels(self.dst) {
+            let at = d * self.columns + self.s;
+            let mut sum = m;
+            sum.entries[at] = sum.entries[at] + x;
+            return sum;
+        }
+        match folds_to(label, self.dst, self.gains) {
+            Targets::Nothing => m,
+            Targets::One(to, by) => self.fold(to, x * by, m),
+            Targets::Two(l, by_l, r, by_r) => {
+                let first = self.fold(l, x * by_l, m);
+                self.fold(r, x * by_r, first)
+            }
         }
     }
 }
 
 // Every label of src, each in its column. Requires that dst is a format.
-fn mapping(src: u32, dst: u32, g: FoldGains) -> Matrix
+#[tactic(auto, using(format::proofs::Labels::channels_le, format::proofs::Labels::label_lt), unfolding(crate::specs::Folds::matrix_of, format::specs::Formats::channels))]
+fn mapping(src: u32, dst: u32, gains: FoldGains) -> Matrix
     requires { dst < 7 }
-    ensures { result.entries ≡ matrix_of src dst g }
+    ensures { result.entries ≡ matrix_of src dst gains }
 {
     let columns = Format::channels(src);
     let mut m = Matrix {
         entries: [0.0f64; 144],
     };
     for (s, label) in Format::labels(src).iter().enumerate() {
-        m = fold(*label, dst, 1.0, g, columns, s, m);
+        let column = Column {
+            dst,
+            gains,
+            columns,
+            s,
+        };
+        m = column.fold(*label, 1.0, m);
     }
     m
 }
 
+// Of -0 it is -0: hence not `abs`.
+#[tactic(auto, unfolding(crate::specs::Width::absolute))]
 fn absolute(x: f64) -> f64
     ensures { result ≡ absolute x }
 {
     if x < 0.0 { -x } else { x }
 }
 
+// Where a is a NaN it is a: hence not `max`.
+#[tactic(auto, unfolding(crate::specs::Width::larger))]
 fn larger(a: f64, b: f64) -> f64
     ensures { result ≡ larger a b }
 {
@@ -162,6 +187,7 @@ fn row_sum(row: &[f64]) -> f64
     sum
 }
 
+#[tactic(auto, using(lists::proofs::Filled::filled_next, lists::proofs::Filled::filled_more, lists::proofs::Filled::filled_all))]
 fn divided(mut m: Matrix, by: f64) -> Matrix
     ensures { result.entries ≡ divided by m.entries }
 {
@@ -173,6 +199,7 @@ fn divided(mut m: Matrix, by: f64) -> Matrix
 
 // A mapping from 3.0 or wider into fewer channels, divided, where asked, by its largest row sum, if that is above 1. Not inlined, so that its
 // copies of the matrix are not on the stack while the mapping folds. Requires at most 12 rows and columns.
+#[tactic(auto, using(crate::proofs::Rows::row_steps), unfolding(crate::specs::Width::normalised))]
 #[inline(never)]
 fn normalised(m: Matrix, rows: usize, columns: usize, normalise: bool) -> Matrix
     requires { (rows ≤ 12) × (columns ≤ 12) }
@@ -198,6 +225,7 @@ fn normalised(m: Matrix, rows: usize, columns: usize, normalise: bool) -> Matrix
 }
 
 // The entries, as f32. Requires room for them.
+#[tactic(auto, using(lists::proofs::Filled::filled_more))]
 fn put(entries: &[f64], out: &mut [f32])
     requires { length entries.now ≤ length out.old }
     ensures { out.new ≡ map narrowed entries.now ++ drop (length entries.now) out.old }
@@ -208,6 +236,7 @@ fn put(entries: &[f64], out: &mut [f32])
 }
 
 // The tests of `width_matrix`, for an area of n floats. They are for the crates above too, and no call of the interface.
+#[tactic(auto, using(crate::proofs::Rows::size), unfolding(crate::specs::Width::width_answer))]
 pub fn width_answer(src: u32, dst: u32, gains: FoldGains, n: usize) -> Answer
     ensures { result ≡ width_answer src dst gains n }
 {
@@ -227,6 +256,7 @@ pub fn width_answer(src: u32, dst: u32, gains: FoldGains, n: usize) -> Answer
 }
 
 // The mapping from the format src to dst, written row by row to the front of `out`: a row for each channel of dst, a column for each of src.
+#[tactic(auto, using(crate::proofs::Rows::few, crate::proofs::Rows::size, crate::proofs::Answers::fitting), unfolding(crate::specs::Width::width_area, crate::specs::Width::entries_of))]
 pub fn width_matrix(
     src: u32,
     dst: u32,

@@ -1,14 +1,15 @@
 -- A table is accepted exactly where it is sound, condition by condition. Assumes nothing.
 use mathlib.Core.Path.{◌≡◌, refl, sym, ap, ◌∙◌}
 use mathlib.Core.Bool.{Bool, true, false, not, ◌&&◌, cond}
-use mathlib.Core.List.{List}
+use mathlib.Core.List.{List, []}
 use Prim.Native.Nat.{ℕ, ◌+◌, ◌*◌, ◌/◌, ◌%◌, ◌<◌, ◌≤◌}
 use native.Mathlib.Omega.{arith}
 use borrow.Author.Tests.{lt-leb, leb-false, ltb-false, eqb-false, not-false}
 use lib.Dec.{eqb, ltb}
-use lib.ListN.{length}
+use lib.ListN.{length, get_or}
 use lib.Ieee.{Float}
-use Rattle.lists.proofs.Bools.{or_none, none_or}
+use Rattle.std.specs.Simd.{first_chunks}
+use Rattle.std.proofs.lemmas.Bool.{or_parts, or_from}
 use Rattle.lists.proofs.Scans.{counted_at, counted_none}
 use Rattle.refusal.proofs.Laws.{accepted_none}
 use Rattle.format.specs.Formats.{unknown_format}
@@ -16,7 +17,7 @@ use Rattle.format_table.specs.Covered.{applies}
 use Rattle.format_table.specs.Tables.{entries, source_at, destination_at, times, needed, some_unknown, some_outside, some_pair, missing, twice, uncovered, all_pairs, table_tests, table_answer}
 use Rattle.format_table.specs.Sound.{TableSound}
 use Rattle.format_table.proofs.Covered.{source_of, destination_of}
-use Rattle.format_table.proofs.Tables.{unknown_counted, outside_counted}
+use Rattle.format_table.proofs.Tables.{unknown_counted, outside_counted, items_long, source_is, destination_is}
 use Rattle.format_table.proofs.Faults.{pair_counted}
 use Rattle.format_table.proofs.Answers.{table_passes}
 use Rattle.std.specs.Prelude.{Ok}
@@ -24,8 +25,17 @@ use Rattle.std.specs.Prelude.{Ok}
 -- no entry is of what is no format
 pub known : (pairs : List ℕ) → some_unknown pairs (entries pairs) ≡ false → (k : ℕ) → k < entries pairs → (source_at pairs k < 7) × (destination_at pairs k < 7)
 known pairs e k h =
-    let b = or_none (unknown_format (source_at pairs k)) (unknown_format (destination_at pairs k)) (counted_at (unknown_counted pairs) (entries pairs) e k h) in
+    let b = or_parts (unknown_format (source_at pairs k)) (unknown_format (destination_at pairs k)) (counted_at (unknown_counted pairs) (entries pairs) e k h) in
     (leb-false 7 (source_at pairs k) b.0, leb-false 7 (destination_at pairs k) b.1)
+
+-- nor is one of the numbers that the code has
+module _ (pairs : List ℕ) (items : List (List ℕ)) (e : items ≡ first_chunks 2 (entries pairs) pairs) (i : ℕ) (h : i < length items)
+    (u : some_unknown pairs (entries pairs) ≡ false) where
+  pub source_below : get_or (get_or items i []) 0 0 < 7
+  source_below = omega (arith, source_is pairs items e i h, (known pairs u i (omega (arith, items_long pairs items e))).0)
+
+  pub destination_below : get_or (get_or items i []) 1 0 < 7
+  destination_below = omega (arith, destination_is pairs items e i h, (known pairs u i (omega (arith, items_long pairs items e))).1)
 
 -- ---- what a test of all pairs says of each
 
@@ -81,7 +91,7 @@ module _ (pairs : List ℕ) (gains : List Float) where
     all_known =
         counted_none (unknown_counted pairs) (entries pairs)
         (λ k h.
-        none_or (unknown_format (source_at pairs k)) (unknown_format (destination_at pairs k)) (lt-leb 7 (source_at pairs k) (s.formats k h).0) (lt-leb 7 (destination_at pairs k) (s.formats k h).1))
+        or_from (unknown_format (source_at pairs k)) (unknown_format (destination_at pairs k)) (lt-leb 7 (source_at pairs k) (s.formats k h).0) (lt-leb 7 (destination_at pairs k) (s.formats k h).1))
 
     all_in_range : some_outside gains (needed pairs (entries pairs)) ≡ false
     all_in_range = counted_none (outside_counted gains) (needed pairs (entries pairs)) (λ i h. ap not (s.in_range i h))

@@ -8,7 +8,7 @@ use native.Mathlib.Numerals.{add-one}
 use native.Mathlib.Omega.{arith}
 use borrow.Author.Tests.{eq-eqb, ne_eqb, eqb-true, eqb-false, lt-ltb}
 use lib.Dec.{eqb, ltb}
-use Rattle.lists.proofs.Bools.{and_both, and_intro}
+use Rattle.std.proofs.lemmas.Bool.{and_parts, and_from}
 use Rattle.lists.proofs.Scans.{Counted}
 use Rattle.sets.specs.Sets.{member}
 use Rattle.format_table.specs.Covered.{applies}
@@ -28,14 +28,14 @@ pair_number s d k hs hd = go (eqb k (s * 7 + d)) refl
   where
     apart : (b : Bool) → (eqb s (k / 7) && eqb d (k % 7)) ≡ b → (k ≡ s * 7 + d → ⊥) → (eqb s (k / 7) && eqb d (k % 7)) ≡ false
     apart true e n =
-        let b = and_both (eqb s (k / 7)) (eqb d (k % 7)) e in
+        let b = and_parts (eqb s (k / 7)) (eqb d (k % 7)) e in
         absurd (n (omega (arith, eqb-true s (k / 7) b.0, eqb-true d (k % 7) b.1)))
     apart false e n = e
 
     go : (b : Bool) → eqb k (s * 7 + d) ≡ b → (eqb s (k / 7) && eqb d (k % 7)) ≡ b
     go true e =
         let p = eqb-true k (s * 7 + d) e in
-        and_intro (eqb s (k / 7)) (eqb d (k % 7)) (eq-eqb s (k / 7) (omega arith)) (eq-eqb d (k % 7) (omega arith))
+        and_from (eqb s (k / 7)) (eqb d (k % 7)) (eq-eqb s (k / 7) (omega arith)) (eq-eqb d (k % 7) (omega arith))
     go false e = apart (eqb s (k / 7) && eqb d (k % 7)) refl (eqb-false k (s * 7 + d) e)
 
 -- ---- no entry, and one entry more

@@ -1,9 +1,9 @@
 -- The entries of a table and their gains: a turn of each loop over them, and where the gains of a pair's only entry are. Assumes nothing.
 use mathlib.Core.Path.{◌≡◌, refl, sym, ap, ◌∙◌}
-use mathlib.Core.Bool.{Bool, true, false, not, ◌||◌, cond, true≢false}
+use mathlib.Core.Bool.{Bool, true, false, not, ◌&&◌, ◌||◌, cond, true≢false}
 use mathlib.Core.List.{List, []}
 use mathlib.Core.Logic.{⊎_elim}
-use Prim.Native.Nat.{ℕ, zero, suc, ◌+◌, ◌*◌, ◌<◌, ◌≤◌}
+use Prim.Native.Nat.{ℕ, zero, suc, ◌+◌, ◌-◌, ◌*◌, ◌<◌, ◌≤◌}
 use native.Mathlib.Nat.{add-zero, not-suc-le-zero, le_of_suc-le-suc, eq-or-lt_of_le}
 use native.Mathlib.Numerals.{add-one}
 use native.Mathlib.Omega.{arith}
@@ -14,7 +14,7 @@ use lib.Seq.{get_or-take, get_or-drop, drop-drop}
 use lib.Ieee.{Float, nan}
 use Rattle.std.specs.Simd.{first_chunks}
 use Rattle.lists.specs.Parts.{part}
-use Rattle.lists.proofs.Bools.{and_both}
+use Rattle.std.proofs.lemmas.Bool.{and_parts}
 use Rattle.lists.proofs.Scans.{Counted}
 use Rattle.lists.proofs.Stores.{length_part}
 use Rattle.format.specs.Formats.{unknown_format, channels}
@@ -87,6 +87,12 @@ module _ (pairs : List ℕ) where
   pub entry_within : (i n : ℕ) → i < n → needed pairs i + size_at pairs i ≤ needed pairs n
   entry_within i n h = omega (arith, needed_more i, needed_le (i + 1) n (omega arith))
 
+-- and so are those of an entry as the code has it
+pub item_within : (pairs : List ℕ) (items : List (List ℕ)) (i : ℕ) → items ≡ first_chunks 2 (entries pairs) pairs → i < length items
+    → needed pairs i + channels (get_or (get_or items i []) 1 0) * channels (get_or (get_or items i []) 0 0) ≤ needed pairs (entries pairs)
+item_within pairs items i e h =
+    omega (arith, entry_within pairs i (entries pairs) (omega (arith, items_long pairs items e)), size_is pairs items e i h refl)
+
 -- ---- the entries for a pair
 
 module _ (pairs : List ℕ) (src dst : ℕ) where
@@ -138,7 +144,7 @@ module _ (pairs : List ℕ) (src dst : ℕ) where
   -- of an entry for the pair the gains are as many as the fold has
   pub entry_size : (i : ℕ) → entry_for pairs src dst i ≡ true → size_at pairs i ≡ channels dst * channels src
   entry_size i e =
-      let k : (eqb (source_at pairs i) src ≡ true) × (eqb (destination_at pairs i) dst ≡ true) = and_both _ _ e in
+      let k : (eqb (source_at pairs i) src ≡ true) × (eqb (destination_at pairs i) dst ≡ true) = and_parts _ _ e in
       cc (eqb-true (source_at pairs i) src k.0, eqb-true (destination_at pairs i) dst k.1)
 
   module _ (gains : List Float) where
@@ -179,3 +185,23 @@ module _ (pairs : List ℕ) (src dst : ℕ) where
         ap length (entry_only t e.place e.below e.fits)
         ∙ length_part (needed pairs e.place) (size_at pairs e.place) gains (omega (arith, entry_within pairs e.place (entries pairs) e.below))
         ∙ entry_size e.place e.fits
+
+-- the part of the gains at the code's entry for the pair, by its end
+pub entry_part : (pairs : List ℕ) (items : List (List ℕ)) (i at size src dst : ℕ) (gains : List Float) → items ≡ first_chunks 2 (entries pairs) pairs
+    → i < length items → times pairs src dst (entries pairs) ≡ 1
+    → (eqb (get_or (get_or items i []) 0 0) src && eqb (get_or (get_or items i []) 1 0) dst) ≡ true
+    → at ≡ needed pairs i → size ≡ channels (get_or (get_or items i []) 1 0) * channels (get_or (get_or items i []) 0 0)
+    → take (at + size - at) (drop at gains) ≡ table_entry pairs gains src dst
+entry_part pairs items i at size src dst gains e h one is p q =
+    let here : i < entries pairs = omega (arith, items_long pairs items e) in
+    let s = source_is pairs items e i h in
+    let d = destination_is pairs items e i h in
+    let n : at + size - at ≡ size_at pairs i = omega (arith, size_is pairs items e i h q) in
+    let own : entry_for pairs src dst i ≡ true = cc (is, s, d) in
+    ap (λ (j : ℕ). take j (drop at gains)) n
+    ∙ ap (λ (j : ℕ). part j (size_at pairs i) gains) p
+    ∙ sym (entry_only pairs src dst gains one i here own)
+
+-- ---- what a loop over the entries goes by
+
+pub ruleset entry_steps = (needed_zero, needed_more, item_within, times_zero, times_later, items_long, source_is, destination_is, size_is)

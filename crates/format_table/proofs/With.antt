@@ -5,18 +5,23 @@ use mathlib.Core.Bool.{Bool, true, false, cond}
 use mathlib.Core.List.{List, ◌++◌}
 use mathlib.Core.Logic.{◌↔◌}
 use Prim.Native.Nat.{ℕ, ◌*◌}
+use native.Mathlib.Omega.{arith}
 use lib.ListN.{length, drop}
+use lib.Seq.{sets}
 use lib.Ieee.{Float}
+use Rattle.lists.proofs.Stores.{sets_front}
 use Rattle.refusal.specs.Tests.{first}
 use Rattle.refusal.specs.declared.Refusal.{Refusal}
 use Rattle.refusal.proofs.Laws.{first_append, refused_rest, none_rest, none_split, none_accepted, accepted_none, outcome_accepted, refused_keeps}
 use Rattle.format.specs.Formats.{channels}
 use Rattle.format_fold.specs.Width.{entries_of, width_tests, width_answer, width_area}
 use Rattle.format_fold.specs.declared.FoldGains.{FoldGains}
+use Rattle.format_fold.proofs.Answers.{fitting}
 use Rattle.format_table.specs.Covered.{applies}
 use Rattle.format_table.specs.Tables.{table_entry, table_tests, table_answer}
 use Rattle.format_table.specs.Sound.{TableSound}
 use Rattle.format_table.specs.With.{with_tests, with_answer, with_entries, with_area}
+use Rattle.format_table.proofs.Tables.{entry_length}
 use Rattle.format_table.proofs.Exact.{table_sound, sound_accepted}
 use Rattle.std.specs.Prelude.{Ok, Err}
 
@@ -67,6 +72,20 @@ module _ (src dst : ℕ) (g : FoldGains) (normalise : Bool) (pairs : List ℕ) (
         written
         ∙ ap (λ (b : Bool). cond b (table_entry pairs gains src dst) (entries_of src dst g normalise) ++ drop (channels dst * channels src) area) a
 
+    -- and that is what stands there once the entry is put at the front
+    pub table_put : {entry new : List Float} → applies src dst ≡ true → entry ≡ table_entry pairs gains src dst → new ≡ sets area 0 entry
+        → new ≡ with_area src dst g normalise pairs gains area
+    table_put {entry} {new} a p q =
+        let k = (with_exactly src dst g (length area) pairs gains).0 e in
+        let f = fitting src dst g (length area) k.0 in
+        let n : length entry ≡ channels dst * channels src =
+        ap length p ∙ entry_length pairs src dst gains (k.1.covered src dst f.source f.destination a) k.1.enough in
+        q
+        ∙ sets_front area entry (omega (arith, n, f.room))
+        ∙ ap (λ (j : ℕ). entry ++ drop j area) n
+        ∙ ap (λ (vs : List Float). vs ++ drop (channels dst * channels src) area) p
+        ∙ sym (table_decides a)
+
     -- of any other it is the fold's without a table
     pub table_leaves : applies src dst ≡ false → with_area src dst g normalise pairs gains area ≡ width_area src dst g normalise area
     unfolding with_entries width_area
@@ -80,3 +99,7 @@ pub flag_idle : (src dst : ℕ) (g : FoldGains) (pairs : List ℕ) (gains area :
     → with_area src dst g true pairs gains area ≡ with_area src dst g false pairs gains area
 unfolding with_area with_entries
 flag_idle src dst g pairs gains area a = rw a
+
+-- ---- what the code goes by
+
+pub ruleset decides = (own_refused, own_accepted, with_refused, table_put, table_leaves)

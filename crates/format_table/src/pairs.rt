@@ -20,7 +20,8 @@ pub struct Seen {
     pub twice: Set,
 }
 
-// Some pair that is to be covered has no entry; some pair has two; some pair that is not to be covered has one.
+// Some pair that is to be covered has no entry; some pair has two; some pair that is not to be covered has one. One turn over the pairs finds all
+// three, each of which has a refusal of its own.
 #[derive(Clone, Copy)]
 pub struct Faults {
     pub missing: bool,
@@ -46,6 +47,7 @@ fn lacks_label(src: u32, dst: u32) -> bool
 }
 
 // Whether a table covers the pair.
+#[tactic(auto, unfolding(crate::specs::Covered::applies))]
 pub fn applies(src: u32, dst: u32) -> bool
     ensures { result ≡ applies src dst }
 {
@@ -75,6 +77,7 @@ fn with_pair(seen: Seen, k: u32) -> Seen
 }
 
 // The pairs that the entries are for. Requires that each entry is of two formats.
+#[tactic(auto, using(crate::proofs::Tables::entry_steps, crate::proofs::Faults::seen_none, crate::proofs::Faults::seen_more, crate::proofs::Exact::source_below, crate::proofs::Exact::destination_below))]
 fn seen_in(pairs: &[u32]) -> Seen
     requires { some_unknown pairs.now (entries pairs.now) ≡ false }
     ensures { SeenIn pairs.now (entries pairs.now) result }
@@ -107,6 +110,7 @@ fn with_faults(faults: Faults, seen: Seen, k: u32) -> Faults
 }
 
 // What is wrong with the pairs of the entries. Requires that each entry is of two formats.
+// k is the pair itself, and no place of a list.
 pub fn faults_in(pairs: &[u32]) -> Faults
     requires { some_unknown pairs.now (entries pairs.now) ≡ false }
     ensures { FaultsIn pairs.now all_pairs result }

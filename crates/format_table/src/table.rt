@@ -9,12 +9,12 @@ use format::Format;
 use format_fold::in_range;
 use refusal::{Answer, Reason};
 
-// One of the first n gains is not from +0 to 16. Requires so many.
-fn some_outside(gains: &[f32], n: usize) -> bool
-    requires { n ≤ length gains.now }
-    ensures { result ≡ some_outside gains.now n }
-{
-    gains[..n].iter().any(|gain| !in_range(f64::from(*gain)))
+// A house table. `pairs` has two numbers an entry, its source and its destination, and a last odd one is ignored; `gains` has their gains, entry after
+// entry, row by row, and the rest is ignored.
+#[derive(Clone, Copy)]
+pub struct Table<'a> {
+    pub pairs: &'a [u32],
+    pub gains: &'a [f32],
 }
 
 // An entry has a format above 6.
@@ -26,66 +26,82 @@ fn some_unknown(pairs: &[u32]) -> bool
 }
 
 // The gains of an entry.
+#[tactic(auto, using(format::proofs::Labels::channels_le))]
 fn size(src: u32, dst: u32) -> usize
     ensures { (result ≡ channels dst * channels src) × (result ≤ 144) }
 {
     Format::channels(dst) * Format::channels(src)
 }
 
-// The gains that the entries need, of `room`. Their sum is never above the room.
-fn gains_needed(pairs: &[u32], room: usize) -> Option<usize>
-    ensures { result ≡ needs_of (needed pairs.now (entries pairs.now)) room }
-{
-    let mut n = 0;
-    for [src, dst] in pairs::entries(pairs) {
-        let size = size(*src, *dst);
-        if room - n < size {
-            return None;
+impl<'a> Table<'a> {
+    // The gains that the entries need, of those that there are. Their sum is never above that.
+    #[tactic(auto, using(crate::proofs::Tables::entry_steps))]
+    fn gains_needed(self) -> Option<usize>
+        ensures { result ≡ needs_of (needed self.entry.pairs.now (entries self.entry.pairs.now)) (length self.entry.gains.now) }
+    {
+        let mut n = 0;
+        for [src, dst] in pairs::entries(self.pairs) {
+            let size = size(*src, *dst);
+            if self.gains.len() - n < size {
+                return None;
+            }
+            n += size;
         }
-        n += size;
+        Some(n)
     }
-    Some(n)
-}
 
-// The gains of the pair's entry. Requires that the pair has one entry, and as many gains as all entries need.
-pub fn find_entry<'a>(src: u32, dst: u32, pairs: &[u32], gains: &'a [f32]) -> &'a [f32]
-    requires { (times pairs.now src dst (entries pairs.now) ≡ 1) × (needed pairs.now (entries pairs.now) ≤ length gains.now) }
-    ensures { result.now ≡ table_entry pairs.now gains.now src dst }
-{
-    let mut at = 0;
-    for [from, to] in pairs::entries(pairs) {
-        let end = at + size(*from, *to);
-        let wanted = (*from == src) & (*to == dst);
-        if wanted {
-            return &gains[at..end];
+    // The gains of the pair's entry. Requires that the pair has one entry, and as many gains as all entries need.
+    #[tactic(auto, using(crate::proofs::Tables::entry_steps, crate::proofs::Tables::entry_part))]
+    pub fn find_entry(self, src: u32, dst: u32) -> &'a [f32]
+        requires { (times self.pairs.now src dst (entries self.pairs.now) ≡ 1) × (needed self.pairs.now (entries self.pairs.now) ≤ length self.gains.now) }
+        ensures { result.now ≡ table_entry self.entry.pairs.now self.entry.gains.now src dst }
+    {
+        let mut at = 0;
+        for [from, to] in pairs::entries(self.pairs) {
+            let end = at + size(*from, *to);
+            let wanted = (*from == src) & (*to == dst);
+            if wanted {
+                return &self.gains[at..end];
+            }
+            at = end;
         }
-        at = end;
+        &self.gains[0..0]
     }
-    &gains[0..0]
-}
 
-// The table's tests.
-pub fn table_answer(pairs: &[u32], gains: &[f32]) -> Answer
-    ensures { result ≡ table_answer pairs.now gains.now }
-{
-    if some_unknown(pairs) {
-        return Err(Reason::NoFormat.into());
+    // One of the first n gains is not from +0 to 16. Requires so many.
+    fn some_outside(self, n: usize) -> bool
+        requires { n ≤ length self.gains.now }
+        ensures { result ≡ some_outside self.entry.gains.now n }
+    {
+        self.gains[..n]
+            .iter()
+            .any(|gain| !in_range(f64::from(*gain)))
     }
-    let Some(n) = gains_needed(pairs, gains.len()) else {
-        return Err(Reason::ShortArea.into());
-    };
-    if some_outside(gains, n) {
-        return Err(Reason::OutOfRange.into());
+
+    // The table's tests.
+    #[tactic(auto, unfolding(crate::specs::Tables::table_answer))]
+    pub fn answer(self) -> Answer
+        ensures { result ≡ table_answer self.entry.pairs.now self.entry.gains.now }
+    {
+        if some_unknown(self.pairs) {
+            return Err(Reason::NoFormat.into());
+        }
+        let Some(n) = self.gains_needed() else {
+            return Err(Reason::ShortArea.into());
+        };
+        if self.some_outside(n) {
+            return Err(Reason::OutOfRange.into());
+        }
+        let faults = pairs::faults_in(self.pairs);
+        if faults.missing {
+            return Err(Reason::NoEntry.into());
+        }
+        if faults.twice {
+            return Err(Reason::PairTwice.into());
+        }
+        if faults.uncovered {
+            return Err(Reason::PairNotCovered.into());
+        }
+        Ok(())
     }
-    let faults = pairs::faults_in(pairs);
-    if faults.missing {
-        return Err(Reason::NoEntry.into());
-    }
-    if faults.twice {
-        return Err(Reason::PairTwice.into());
-    }
-    if faults.uncovered {
-        return Err(Reason::PairNotCovered.into());
-    }
-    Ok(())
 }

@@ -1,13 +1,11 @@
 use mathlib.Core.Path.{◌≡◌, ap, ◌∙◌}
-use mathlib.Core.List.{append-nil, List, ◌++◌, map}
-use Prim.Native.Nat.{ℕ, ◌<◌, ◌≤◌}
-use native.Mathlib.Nat.{le_refl}
+use mathlib.Core.List.{List}
+use Prim.Native.Nat.{◌<◌, ◌≤◌}
 use native.Mathlib.Omega.{arith}
 use borrow.Author.Rules.{rules}
 use lib.ListN.{length, get_or, set}
-use lib.Seq.{drop-length}
 use lib.Ieee.{Float, nan, binary64, div}
-use Rattle.lists.proofs.Filled.{filled, filled_next, filled_more, filled_all}
+use Rattle.lists.proofs.Filled.{filled, filled_next, filled_more}
 use Rattle.format_fold.proofs.divided.Goals as goal
 
 pub loop-x-preserved : goal.loop-x-preserved
@@ -22,15 +20,3 @@ loop-x-preserved c =
     ap (λ (l : List Float). set l i (f (get_or l i nan))) c.loop-x.invariant
     ∙ ap (λ (x : Float). set (filled f xs i xs) i (f x)) (filled_next f xs i xs nan k n)
     ∙ filled_more f xs i xs nan n n
-
-pub returns : goal.returns
-returns c =
-    let full : length c.args.m.entries ≡ 144 = search rules in
-    let xs = c.args.m.entries in
-    let f : Float → Float = λ x. div binary64 x c.args.by in
-    let e : c.loop-x.x-index ≡ length xs = omega (arith, full, c.loop-x.auto.x-index-end) in
-    c.loop-x.invariant
-    ∙ ap (λ (i : ℕ). filled f xs i xs) e
-    ∙ filled_all f xs (length xs) xs (le_refl (length xs))
-    ∙ ap (λ (l : List Float). map f xs ++ l) (drop-length xs)
-    ∙ append-nil (map f xs)

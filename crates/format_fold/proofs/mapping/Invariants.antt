@@ -5,4 +5,4 @@ use Rattle.format_fold.specs.Folds.{folded_each, matrix_of}
 use Rattle.format_fold.proofs.mapping.Given as goal
 
 abbrev pub invariant-loop-s : goal.invariant-loop-s
-invariant-loop-s l = folded_each l.g l.dst l.columns l.s (drop l.s l.label-items) l.m.entries ≡ matrix_of l.src l.dst l.g
+invariant-loop-s l = folded_each l.gains l.dst l.columns l.s (drop l.s l.label-items) l.m.entries ≡ matrix_of l.src l.dst l.gains

@@ -1,8 +1,0 @@
--- `format_table::table::find_entry` meets its contract: the loop's invariant: the gains of the entry start at `at`, and no entry before it is for the
--- pair. Assumes nothing.
-use mathlib.Core.Path.{◌≡◌}
-use Rattle.format_table.specs.Tables.{needed, times}
-use Rattle.format_table.proofs.table.find_entry.Given as goal
-
-abbrev pub invariant-loop-from : goal.invariant-loop-from
-invariant-loop-from l = (l.at ≡ needed l.pairs l.from-index) × (times l.pairs l.src l.dst l.from-index ≡ 0)
