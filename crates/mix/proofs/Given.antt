@@ -11,7 +11,8 @@ use lib.Seq.{get_or-take}
 use lib.Dec.{eqb}
 use lib.Ieee.{Float, nan}
 use borrow.Author.Tests.{eq-eqb}
-use Rattle.lists.proofs.Bools.{and_both, first_not, second_not}
+use Rattle.std.proofs.lemmas.Bool.{and_parts}
+use Rattle.lists.proofs.Bools.{first_not, second_not}
 use Rattle.mix.specs.Mix.{is_zero, Inside, Pair, Row, Buffers, used}
 use Rattle.mix.specs.Loops.{Four}
 
@@ -85,10 +86,10 @@ four_of src dst weights s d h e =
     z i = is_zero (get_or weights i nan)
 
     all : (not (z 0) && not (z 1) && (not (z 2) && not (z 3)) ≡ true) × (not (eqb (get_or dst 1 0) (get_or dst 0 0)) ≡ true)
-    all = and_both (not (z 0) && not (z 1) && (not (z 2) && not (z 3))) (not (eqb (get_or dst 1 0) (get_or dst 0 0))) e
+    all = and_parts (not (z 0) && not (z 1) && (not (z 2) && not (z 3))) (not (eqb (get_or dst 1 0) (get_or dst 0 0))) e
 
     pairs : (not (z 0) && not (z 1) ≡ true) × (not (z 2) && not (z 3) ≡ true)
-    pairs = and_both (not (z 0) && not (z 1)) (not (z 2) && not (z 3)) all.0
+    pairs = and_parts (not (z 0) && not (z 1)) (not (z 2) && not (z 3)) all.0
 
     each : (i : ℕ) → i < 4 → z i ≡ false
     each zero l = first_not (z 0) (z 1) pairs.0

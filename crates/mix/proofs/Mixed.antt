@@ -7,7 +7,7 @@ use mathlib.Core.Logic.{inl, inr, ⊎_elim}
 use Prim.Native.Nat.{ℕ, ◌+◌, ◌-◌, ◌≤◌, ◌<◌}
 use native.Mathlib.Nat.{zero-add}
 use native.Mathlib.Omega.{arith}
-use lib.ListN.{length, get_or, drop, set, replicate, length-take, length-drop, length-replicate, get_or-replicate}
+use lib.ListN.{length, get_or, drop, set, length-take, length-drop}
 use lib.Seq.{sets, length-sets, get_or-take, get_or-drop}
 use lib.Ieee.{Float, nan}
 use borrow.Author.Tests.{le-leb, leb-true}
@@ -16,8 +16,8 @@ use Rattle.lists.proofs.Stores.{get_d_sets}
 use Rattle.node.specs.declared.Gain.{Gain}
 use Rattle.node.specs.declared.Gain.TheVariants.{Rest, Moving}
 use Rattle.node.specs.Nodes.{ramping}
-use Rattle.mix.specs.Samples.{silence, sampled}
-use Rattle.mix.specs.Loops.{whole_piece, mixed_into, mixed_at, two_at, PartsApart}
+use Rattle.mix.specs.Samples.{sampled}
+use Rattle.mix.specs.Loops.{mixed_into, mixed_at, two_at, PartsApart}
 use Rattle.mix.proofs.Stored.{length_sampled, turn, stored_at, sampled_same}
 
 -- ---- a ramp that lasts to a sample lasts to every one before it
@@ -134,19 +134,3 @@ piece_four f q g h from other to next m k a t₀ {b} {u₁} {u₂} {u₃} {c} hf
     ∙ sym (ap (λ (v : Float). h (k + i) v (g (k + i) (get_or w (from + i) nan) (get_or w (next + i) nan))) (apart_kept F a to m other i m oz l (omega arith))
     ∙ ap (λ (v : Float). h (k + i) (get_or a (other + i) nan) (g (k + i) v (get_or w (next + i) nan))) (apart_kept F a to m from i m of l (omega arith))
     ∙ ap (λ (v : Float). h (k + i) (get_or a (other + i) nan) (g (k + i) (get_or a (from + i) nan) v)) (apart_kept F a to m next i m on l (omega arith))))
-
--- a piece of two sources, from a new local on
-pub piece_new : (f q : ℕ → Float → Float → Float) (from other to m k : ℕ) (a : List Float) {t₁ t₂ b : List Float}
-    → from + m ≤ length a → other + m ≤ length a → m ≤ whole_piece
-    → t₁ ≡ mixed_into f k (length (mid_of from (from + m - from) a)) (mid_of from (from + m - from) a) (replicate whole_piece silence)
-    → t₂ ≡ mixed_into q k (length (mid_of other (other + m - other) a)) (mid_of other (other + m - other) a) t₁
-    → b ≡ sets a to (sampled m (λ i. get_or t₂ i nan)) → b ≡ two_at (λ k x y. f k x silence) q from other to m k a
-piece_new f q from other to m k a {t₁} {t₂} hf hz h₀ e₁ e₂ e₃ =
-    let t₀ : List Float = replicate whole_piece silence in
-    let n₀ : length t₀ ≡ whole_piece = length-replicate whole_piece silence in
-    let n₁ : length t₁ ≡ length t₀ = ap length e₁ ∙ length_mixed f k (mid_of from (from + m - from) a) t₀ (length (mid_of from (from + m - from) a)) in
-    samples_stored (λ i. q (k + i) (get_or a (other + i) nan) (f (k + i) (get_or a (from + i) nan) silence)) a to m e₃
-    (λ i l. part_mixed q q k other m a t₁ hz (omega arith) (λ i l x y. refl) e₂ i l
-    ∙ ap (λ (v : Float). q (k + i) (get_or a (other + i) nan) v)
-    (part_mixed f f k from m a t₀ hf (omega arith) (λ i l x y. refl) e₁ i l
-    ∙ ap (λ (v : Float). f (k + i) (get_or a (from + i) nan) v) (get_or-replicate whole_piece i silence nan (omega arith))))

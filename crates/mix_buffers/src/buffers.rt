@@ -7,6 +7,7 @@ ghost use Rattle.mix.specs.Mix.{clear_buffer, cleared, appended, Inside, AllInsi
 use mix_samples::{copy, fill};
 
 // +0 in buffer d. Requires that it lies within the area.
+#[tactic(auto, using(mix::proofs::Stored::part_stored))]
 pub fn fill_buffer(area: &mut [f32], block: usize, d: usize)
     requires { Inside block d area.old }
     ensures { area.new ≡ clear_buffer block d area.old }
@@ -16,11 +17,13 @@ pub fn fill_buffer(area: &mut [f32], block: usize, d: usize)
 }
 
 // The start of `samples` in buffer d. Requires that it lies within the area, and a block of samples.
+#[tactic(auto, using(mix::proofs::Stored::part_stored))]
 pub fn copy_buffer(area: &mut [f32], block: usize, d: usize, samples: &[f32])
     requires { Inside block d area.old × (block ≤ length samples.now) }
     ensures { area.new ≡ put block d (λ k. get_or samples.now k nan) area.old }
 {
     let p = d * block;
+    // By `copy`, which also takes samples that are more than a block.
     copy(samples, &mut area[p..p + block]);
 }
 

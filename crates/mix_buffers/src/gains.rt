@@ -14,11 +14,8 @@ pub fn gain(area: &mut [f32], block: usize, src: &[u32], dst: &[u32], node: Rows
     requires values { Values (min (length src.now) (length dst.now)) node }
     ensures { area.new ≡ gained block (gain_in node.entry) 0 src.now dst.now area.old }
 {
-    let n = lists::smaller(src.len(), dst.len());
-    for c in 0..n {
-        let s = src[c] as usize;
-        let d = dst[c] as usize;
+    for (c, (s, d)) in src.iter().zip(dst).enumerate() {
         let g = node.gain(c);
-        mix_into(area, block, s, d, Scale(g));
+        mix_into(area, block, *s as usize, *d as usize, Scale(g));
     }
 }

@@ -1,4 +1,5 @@
-// The loops of Patch, Gain, Clear and Output over the buffers of one area; crates `mix_matrix` and `mix_send` have Matrix and Send. Ports those of `Plan::process` in src/engine/plan.rs.
+// The loops of Patch, Gain, Clear and Output over the buffers of one area; crates `mix_matrix` and `mix_send` have Matrix and Send. Ports
+// those of `Plan::process` in src/engine/plan.rs.
 // All of it is for the crates above and not the interface: a function that has a `requires` says in its comment what it takes.
 #![tactic(auto)]
 

@@ -28,6 +28,7 @@ fn mix_last<M: Mixing>(area: &mut [f32], from: usize, to: usize, m: usize, k: us
 {
     let g = later(by.gain(), k as u32);
     let whole = g.on_ramp(k + m);
+    // Both parts lie in one area, which cannot be lent twice: hence the index.
     for i in 0..m {
         let v = g.factor((k + i) as u32, whole);
         area[to + i] = by.mix(area[from + i], area[to + i], v);

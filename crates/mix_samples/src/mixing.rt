@@ -15,7 +15,7 @@ pub trait Mixing: Copy {
     ghost mixed: { Self → Float → Float → Float → Float };
 
     // Whether the samples after the last whole piece of a buffer go as a shorter piece, and not one by one.
-    const SHORT_PIECE: bool;
+    const SHORT_PIECE: bool = false;
 
     fn gain(self) -> Gain
         ensures { result ≡ gain self };
@@ -32,8 +32,6 @@ impl Mixing for Load {
     ghost gain = { λ it. Rest silence };
 
     ghost mixed = { λ it x y v. x };
-
-    const SHORT_PIECE: bool = false;
 
     fn gain(self) -> Gain {
         Gain::Rest(0.0)
@@ -53,8 +51,6 @@ impl Mixing for Scale {
 
     ghost mixed = { λ it x y v. mul binary32 x v };
 
-    const SHORT_PIECE: bool = false;
-
     fn gain(self) -> Gain {
         self.0
     }
@@ -72,8 +68,6 @@ impl Mixing for Add {
     ghost gain = { λ it. it.0 };
 
     ghost mixed = { λ it x y v. add binary32 y (mul binary32 x v) };
-
-    const SHORT_PIECE: bool = true;
 
     fn gain(self) -> Gain {
         self.0
@@ -93,8 +87,6 @@ impl Mixing for AddAtRest {
 
     ghost mixed = { λ it x y v. add binary32 y (mul binary32 x v) };
 
-    const SHORT_PIECE: bool = false;
-
     fn gain(self) -> Gain {
         Gain::Rest(self.0)
     }
@@ -112,8 +104,6 @@ impl Mixing for StartAtRest {
     ghost gain = { λ it. Rest it.0 };
 
     ghost mixed = { λ it x y v. add binary32 silence (mul binary32 x v) };
-
-    const SHORT_PIECE: bool = false;
 
     fn gain(self) -> Gain {
         Gain::Rest(self.0)

@@ -31,6 +31,7 @@ pub fn later(g: Gain, k: u32) -> Gain
 }
 
 // At rest and equal to 0.
+#[tactic(auto, unfolding(mix::specs::Mix::silent))]
 pub fn is_silent(g: Gain) -> bool
     ensures { result ≡ silent g }
 {
@@ -43,8 +44,6 @@ pub fn is_silent(g: Gain) -> bool
 // Mixes x into the start of y, where x starts at sample k. Requires at most a piece of a block.
 pub fn mix_samples<M: Mixing>(x: &[f32], y: &mut [f32; PIECE], k: usize, m: M)
     requires piece { (length x.now ≤ whole_piece) × (k + length x.now ≤ max_ramp) }
-    requires local { length y.old ≡ whole_piece }
-    ensures local { length y.new ≡ whole_piece }
     ensures mixed { y.new ≡ mixed_into (by_gain (M.mixed m) (M.gain m)) k (length x.now) x.now y.old }
 {
     let g = later(m.gain(), k as u32);
@@ -55,11 +54,12 @@ pub fn mix_samples<M: Mixing>(x: &[f32], y: &mut [f32; PIECE], k: usize, m: M)
 }
 
 // The first m of t, in the area from `to` on. Requires at most a piece, within the area.
+#[tactic(auto, using(mix::proofs::Stored::part_stored))]
 pub fn store(t: &[f32; PIECE], area: &mut [f32], to: usize, m: usize)
     requires fits { (to + m ≤ length area.old) × (m ≤ whole_piece) }
-    requires local { length t.now ≡ whole_piece }
     ensures { area.new ≡ sets area.old to (sampled m (λ i. get_or t.now i nan)) }
 {
+    // By `copy`, for its speed.
     copy(&t[..], &mut area[to..to + m]);
 }
 
@@ -68,13 +68,14 @@ pub fn copy(x: &[f32], y: &mut [f32])
     requires { length y.old ≤ length x.now }
     ensures { y.new ≡ sampled (length y.old) (λ i. get_or x.now i nan) }
 {
-    // `copy_from_slice` makes a step with two sources slower by a third and more
-    for i in 0..y.len() {
-        y[i] = x[i];
+    // `copy_from_slice` makes a step with two sources slower by a third and more.
+    for (i, sample) in y.iter_mut().enumerate() {
+        *sample = x[i];
     }
 }
 
 // +0 in all of y.
+#[tactic(auto, using(mix::proofs::Stored::repeated_sampled))]
 pub fn fill(y: &mut [f32])
     ensures { y.new ≡ sampled (length y.old) (λ i. silence) }
 {

@@ -12,7 +12,6 @@ use Rattle.mix_matrix.proofs.add_part.Goals as goal
 pub returns-then-is_silent : goal.returns-then-is_silent
 returns-then-is_silent c =
     let a = c.args in record {
-      local = search rules;
       added = λ i h. not_added a.g (a.j + i) (get_or a.area.now (a.p + i) nan) (get_or a.t.now i nan) (sym c.is_silent.ensures ∙ c.if-is_silent.true);
     }
 
@@ -20,7 +19,6 @@ pub returns : goal.returns
 returns c =
     let a = c.args in
     let f = plus_scaled a.g in record {
-      local = search rules;
       added = λ i h.
           part_mixed f f a.j a.p a.m a.area.now a.t.now (search rules) (search rules)
           (λ i h x y. refl)

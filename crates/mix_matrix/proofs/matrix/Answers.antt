@@ -14,17 +14,13 @@ loop-r-init c = let a = c.args in (search rules, refl, no_row a.block (gain_in a
 pub overflow_cast-d : goal.overflow_cast-d
 overflow_cast-d c = omega (arith, c.type_inv.dst c.loop-r.r)
 
-pub overflow_mul-r : goal.overflow_mul-r
-overflow_mul-r c = omega (arith, ends_before {i = c.loop-r.r} {j = length c.args.dst.now} (length c.args.src.now) c.loop-r-test.true)
+pub overflow_mul-row : goal.overflow_mul-row
+overflow_mul-row c = omega (arith, ends_before {i = c.loop-r.r} {j = length c.args.dst.now} (length c.args.src.now) c.loop-r-test.true)
 
 pub matrix_row-requires : goal.matrix_row-requires
-matrix_row-requires c =
-    let l = c.loop-r in
-    let p = c.requires in
-    let h = ends_before {i = c.loop-r.r} {j = length c.args.dst.now} (length c.args.src.now) c.loop-r-test.true in record {
-      values = record { curs = omega (arith, p.values.curs); steps = omega (arith, p.values.steps); targets = omega (arith, p.values.targets) };
-      row = row_of l.invariant.1 p.buffers l.r c.loop-r-test.true;
-    }
+matrix_row-requires c = let l = c.loop-r in record {
+  row = row_of l.invariant.1 c.requires.buffers l.r c.loop-r-test.true;
+}
 
 pub loop-r-preserved : goal.loop-r-preserved
 loop-r-preserved c =

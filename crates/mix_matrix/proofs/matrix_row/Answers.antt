@@ -14,31 +14,25 @@ use Rattle.mix.proofs.Given.{pair_of}
 use Rattle.mix.proofs.Rows.{two_summed}
 use Rattle.mix_matrix.proofs.matrix_row.Goals as goal
 
-pub overflow_cast-s : goal.overflow_cast-s
-overflow_cast-s c = omega (arith, c.type_inv.src 0)
-
-pub overflow_cast-z : goal.overflow_cast-z
-overflow_cast-z c = omega (arith, c.type_inv.src 1)
-
 pub two_into-requires : goal.two_into-requires
 two_into-requires c =
     let p = c.requires in
-    let n = c.if-src-eq2.true in record {
-      s = pair_of refl p.row 0 (omega arith);
-      z = pair_of refl p.row 1 (omega arith);
+    let n = c.if-row-eq2.true in record {
+      first = pair_of refl p.row 0 (omega arith);
+      then = pair_of refl p.row 1 (omega arith);
     }
 
 pub returns-then-a-b : goal.returns-then-a-b
 unfolding eq ne
 returns-then-a-b c =
     let a = c.args in
-    let z : a.node.left ≡ 0 = c.if-node-eq0.true in
-    let x = get_or a.node.target.now a.v nan in
-    let y = get_or a.node.target.now (a.v + 1) nan in
+    let z : a.row.node.left ≡ 0 = c.if-row-eq0.true in
+    let x = get_or a.row.node.target.now a.row.v nan in
+    let y = get_or a.row.node.target.now (a.row.v + 1) nan in
     let b = c.if-a-b.true in
-    two_summed a.block (gain_in a.node) a.v a.src.now a.d a.area.now (Rest x) (Rest y) c.if-src-eq2.true c.requires.row
+    two_summed a.block (gain_in a.row.node) a.row.v a.row.src.now a.d a.area.now (Rest x) (Rest y) c.if-row-eq2.true c.requires.row
     (simp (eq-eqb _ _ z))
-    (rw (add-one a.v) (simp (eq-eqb _ _ z)))
+    (rw (add-one a.row.v) (simp (eq-eqb _ _ z)))
     (first_not (is_zero x) (is_zero y) b)
     (second_not (is_zero x) (is_zero y) b)
     c.two_into.ensures

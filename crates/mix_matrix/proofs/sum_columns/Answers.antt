@@ -5,10 +5,7 @@ use Rattle.mix.proofs.Rows.{columns_left, column_done, columns_done}
 use Rattle.mix_matrix.proofs.sum_columns.Goals as goal
 
 pub loop-c-init : goal.loop-c-init
-loop-c-init c = let a = c.args in (search rules, search rules, columns_left a.block (gain_in a.node) a.v a.src.now a.area.now a.j a.m a.t.now)
-
-pub overflow_cast-s : goal.overflow_cast-s
-overflow_cast-s c = omega (arith, c.type_inv.src c.loop-c.c)
+loop-c-init c = let a = c.args in (search rules, search rules, columns_left a.block (gain_in a.row.node) a.row.v a.row.src.now a.area.now a.j a.m a.t.now)
 
 pub overflow_mul-s : goal.overflow_mul-s
 overflow_mul-s c = omega (arith, c.requires.sources c.loop-c.c c.loop-c-test.true)
@@ -20,7 +17,6 @@ pub add_part-requires : goal.add_part-requires
 add_part-requires c = record {
   part = (omega (arith, c.requires.sources c.loop-c.c c.loop-c-test.true), search rules);
   small = search rules;
-  local = search rules;
 }
 
 pub loop-c-preserved : goal.loop-c-preserved
@@ -28,14 +24,13 @@ loop-c-preserved c =
     let a = c.args in
     let l = c.loop-c in (
       search rules,
-      c.add_part.ensures.local,
-      column_done a.block (gain_in a.node) a.v a.src.now a.area.now a.j a.m a.t.now l.c _ l.t _ (search rules) c.gain-g.ensures l.invariant.2 c.add_part.ensures.added,
+      search rules,
+      column_done a.block (gain_in a.row.node) a.row.v a.row.src.now a.area.now a.j a.m a.t.now l.c _ l.t _ (search rules) c.gain-g.ensures l.invariant.2 c.add_part.ensures.added,
     )
 
 pub returns : goal.returns
 returns c =
     let a = c.args in
     let l = c.loop-c in record {
-      local = l.invariant.1;
-      summed = columns_done a.block (gain_in a.node) a.v a.src.now a.area.now a.j a.m a.t.now l.c l.t (omega arith) l.invariant.2;
+      summed = columns_done a.block (gain_in a.row.node) a.row.v a.row.src.now a.area.now a.j a.m a.t.now l.c l.t (omega arith) l.invariant.2;
     }

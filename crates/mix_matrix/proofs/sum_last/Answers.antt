@@ -8,13 +8,12 @@ use Rattle.mix_matrix.proofs.sum_last.Goals as goal
 pub loop-j-init : goal.loop-j-init
 loop-j-init c =
     let a = c.args in
-    (search rules, c.requires.rest, refl, no_sample a.block (gain_in a.node) a.v a.src.now a.d a.area.now c.requires.row a.r)
+    (search rules, c.requires.rest, refl, no_sample a.block (gain_in a.row.node) a.row.v a.row.src.now a.d a.area.now c.requires.row a.r)
 
 pub sum_piece-requires : goal.sum_piece-requires
 sum_piece-requires c =
     let l = c.loop-j in
     let p = c.requires in record {
-      values = p.values;
       piece = (omega arith, p.row.small, omega arith);
       target = omega (arith, p.row.target);
       sources = λ i h. omega (arith, p.row.sources i h);
@@ -27,7 +26,7 @@ loop-j-preserved c =
       omega arith,
       search rules,
       c.sum_piece.auto.area ∙ l.invariant.2,
-      row_sample_lem a.block (gain_in a.node) a.v a.src.now a.d a.area.now c.requires.row a.r l.j l.invariant.0 c.loop-j-test.true l.invariant.3 c.sum_piece.ensures,
+      row_sample_lem a.block (gain_in a.row.node) a.row.v a.row.src.now a.d a.area.now c.requires.row a.r l.j l.invariant.0 c.loop-j-test.true l.invariant.3 c.sum_piece.ensures,
     )
 
 pub returns : goal.returns

@@ -11,15 +11,13 @@ use Rattle.mix_matrix.proofs.sum_piece.Goals as goal
 
 pub sum_columns-requires : goal.sum_columns-requires
 sum_columns-requires c = let p = c.requires in record {
-  values = p.values;
   piece = p.piece;
-  local = search rules;
   sources = p.sources;
 }
 
 pub returns : goal.returns
 returns c =
     let a = c.args in
-    let f : ℕ → Float → Float = λ k. row_sample a.block (gain_in a.node) a.v a.src.now a.area.now (a.j + k) in
+    let f : ℕ → Float → Float = λ k. row_sample a.block (gain_in a.row.node) a.row.v a.row.src.now a.area.now (a.j + k) in
     samples_stored (λ k. f k silence) a.area.now (a.d * a.block + a.j) a.m c.store.ensures
     (from_silence f a.m (search rules) c.sum_columns.ensures.summed)

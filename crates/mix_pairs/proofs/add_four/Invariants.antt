@@ -6,7 +6,7 @@ use Rattle.mix.proofs.Pieces.{BothBegun}
 use Rattle.mix_pairs.proofs.add_four.Given as goal
 
 abbrev pub invariant-loop-i : goal.invariant-loop-i
-invariant-loop-i l = (l.i ≤ l.n) × BothBegun (plus_scaled (Rest l.a)) (plus_scaled (Rest l.b)) (plus_scaled (Rest l.f)) (plus_scaled (Rest l.h)) l.block l.s l.z l.d l.e l.initial.area l.i l.area
+invariant-loop-i l = (l.i ≤ l.n) × BothBegun (plus_scaled (Rest l.first.1.0)) (plus_scaled (Rest l.then.1.0)) (plus_scaled (Rest l.first.1.1)) (plus_scaled (Rest l.then.1.1)) l.block l.first.0 l.then.0 l.d l.e l.initial.area l.i l.area
 
 abbrev pub decreases-loop-i : goal.decreases-loop-i
 decreases-loop-i l = l.n - l.i

@@ -1,5 +1,6 @@
 -- `mix_pairs::add_four_piece` meets its contract: by the laws of a piece of two sources, and of a second one from them. Assumes nothing.
 use mathlib.Core.Path.{refl}
+use Prim.Native.Nat.{◌+◌}
 use native.Mathlib.Omega.{arith}
 use lib.ListN.{replicate, length-replicate}
 use Rattle.node.specs.declared.Gain.TheVariants.{Rest}
@@ -12,40 +13,37 @@ pub mix_samples-requires-6 : goal.mix_samples-requires-6
 mix_samples-requires-6 c =
     let a = c.args in
     let p = c.requires in
-    let n = part_length a.area.now a.other a.m p.other.0.source in record {
-      piece = (omega (arith, n, p.from.0.short), omega (arith, n, p.from.0.within));
-      local = c.mix_samples-5.ensures.local;
+    let n = part_length a.area.now (a.then.0 + a.k) whole_piece p.then.0.source in record {
+      piece = (omega (arith, n, p.first.0.short), omega (arith, n, p.first.0.within));
     }
 
 pub store-requires : goal.store-requires
 store-requires c = let p = c.requires in record {
-  fits = (p.from.0.target, p.from.0.short);
-  local = c.mix_samples-4.ensures.local;
+  fits = (p.first.0.target, p.first.0.short);
 }
 
 pub store-requires-2 : goal.store-requires-2
 store-requires-2 c = let p = c.requires in record {
-  fits = (omega (arith, p.next.0.source, c.store.auto.area), p.from.0.short);
-  local = c.mix_samples-6.ensures.local;
+  fits = (omega (arith, p.next.0.source, c.store.auto.area), p.first.0.short);
 }
 
 pub returns : goal.returns
 returns c =
     let a = c.args in
     let p = c.requires in
-    let f = plus_scaled (Rest a.a) in
-    let q = plus_scaled (Rest a.b) in
+    let f = plus_scaled (Rest a.first.1.0) in
+    let q = plus_scaled (Rest a.then.1.0) in
     let t = replicate whole_piece silence in
     let n = length-replicate whole_piece silence in
-    piece_four f q (plus_scaled (Rest a.f)) (plus_scaled (Rest a.h)) a.from a.other a.to a.next a.m a.k a.area.now t
-    p.from.0.source
-    p.other.0.source
+    piece_four f q (plus_scaled (Rest a.first.1.1)) (plus_scaled (Rest a.then.1.1)) (a.first.0 + a.k) (a.then.0 + a.k) (a.to + a.k) (a.next + a.k) whole_piece a.k a.area.now t
+    p.first.0.source
+    p.then.0.source
     p.next.0.source
-    (omega (arith, n, p.from.0.short))
-    p.from.1
-    p.other.1
+    (omega (arith, n, p.first.0.short))
+    p.first.1
+    p.then.1
     p.next.1
-    (piece_two f q f q a.from a.other a.to a.m a.k a.area.now t p.from.0.source p.other.0.source p.from.0.target (omega (arith, n, p.from.0.short))
+    (piece_two f q f q (a.first.0 + a.k) (a.then.0 + a.k) (a.to + a.k) whole_piece a.k a.area.now t p.first.0.source p.then.0.source p.first.0.target (omega (arith, n, p.first.0.short))
     (λ i h x y. refl)
     (λ i h x y. refl)
     c.mix_samples.ensures.mixed

@@ -6,20 +6,20 @@ use Rattle.mix.proofs.Pieces.{piece_of, pieces_begin, piece_done, pieces_done, r
 use Rattle.mix_pairs.proofs.two_into.Goals as goal
 
 pub loop-i-init : goal.loop-i-init
-loop-i-init g c = let a = c.args in (search rules, pieces_begin (by_gain (g.M.Mixing.mixed a.by) (g.M.Mixing.gain a.by)) (by_gain (g.N.Mixing.mixed a.then) (g.N.Mixing.gain a.then)) a.block a.s a.z a.d a.area.now)
+loop-i-init g c = let a = c.args in (search rules, pieces_begin (by_gain (g.M.Mixing.mixed a.first.1) (g.M.Mixing.gain a.first.1)) (by_gain (g.N.Mixing.mixed a.then.1) (g.N.Mixing.gain a.then.1)) a.block a.first.0 a.then.0 a.d a.area.now)
 
 pub loop-i-preserved : goal.loop-i-preserved
 loop-i-preserved g c =
     let a = c.args in
     let p = c.requires in
     let l = c.loop-i in
-    (search rules, piece_done (by_gain (g.M.Mixing.mixed a.by) (g.M.Mixing.gain a.by)) (by_gain (g.N.Mixing.mixed a.then) (g.N.Mixing.gain a.then)) a.block a.s a.z a.d a.area.now p.s p.z l.i c.loop-i-test.true l.invariant.1 c.two_piece.ensures)
+    (search rules, piece_done (by_gain (g.M.Mixing.mixed a.first.1) (g.M.Mixing.gain a.first.1)) (by_gain (g.N.Mixing.mixed a.then.1) (g.N.Mixing.gain a.then.1)) a.block a.first.0 a.then.0 a.d a.area.now p.first p.then l.i c.loop-i-test.true l.invariant.1 c.two_piece.ensures)
 
 pub returns-then-r-block : goal.returns-then-r-block
 returns-then-r-block g c =
     let a = c.args in
     let l = c.loop-i in
-    pieces_done (by_gain (g.M.Mixing.mixed a.by) (g.M.Mixing.gain a.by)) (by_gain (g.N.Mixing.mixed a.then) (g.N.Mixing.gain a.then)) a.block a.s a.z a.d a.area.now l.i (omega arith) l.invariant.1
+    pieces_done (by_gain (g.M.Mixing.mixed a.first.1) (g.M.Mixing.gain a.first.1)) (by_gain (g.N.Mixing.mixed a.then.1) (g.N.Mixing.gain a.then.1)) a.block a.first.0 a.then.0 a.d a.area.now l.i (omega arith) l.invariant.1
 
 pub two_last-requires : goal.two_last-requires
 two_last-requires g c =
@@ -27,8 +27,8 @@ two_last-requires g c =
     let p = c.requires in
     let l = c.loop-i in
     let r = whole_piece * (a.block / whole_piece) in record {
-      from = piece_of p.s l.invariant.1.0 r (a.block - r) (omega arith) (omega arith);
-      other = piece_of p.z l.invariant.1.0 r (a.block - r) (omega arith) (omega arith);
+      first = piece_of p.first l.invariant.1.0 r (a.block - r) (omega arith) (omega arith);
+      then = piece_of p.then l.invariant.1.0 r (a.block - r) (omega arith) (omega arith);
     }
 
 pub returns-then-SHORT_PIECE : goal.returns-then-SHORT_PIECE
@@ -36,11 +36,11 @@ returns-then-SHORT_PIECE g c =
     let a = c.args in
     let p = c.requires in
     let l = c.loop-i in
-    rest_done (by_gain (g.M.Mixing.mixed a.by) (g.M.Mixing.gain a.by)) (by_gain (g.N.Mixing.mixed a.then) (g.N.Mixing.gain a.then)) a.block a.s a.z a.d a.area.now p.s p.z l.i (omega arith) l.invariant.1 c.two_piece-then-SHORT_PIECE.ensures
+    rest_done (by_gain (g.M.Mixing.mixed a.first.1) (g.M.Mixing.gain a.first.1)) (by_gain (g.N.Mixing.mixed a.then.1) (g.N.Mixing.gain a.then.1)) a.block a.first.0 a.then.0 a.d a.area.now p.first p.then l.i (omega arith) l.invariant.1 c.two_piece-then-SHORT_PIECE.ensures
 
 pub returns-else-SHORT_PIECE : goal.returns-else-SHORT_PIECE
 returns-else-SHORT_PIECE g c =
     let a = c.args in
     let p = c.requires in
     let l = c.loop-i in
-    rest_done (by_gain (g.M.Mixing.mixed a.by) (g.M.Mixing.gain a.by)) (by_gain (g.N.Mixing.mixed a.then) (g.N.Mixing.gain a.then)) a.block a.s a.z a.d a.area.now p.s p.z l.i (omega arith) l.invariant.1 c.two_last.ensures
+    rest_done (by_gain (g.M.Mixing.mixed a.first.1) (g.M.Mixing.gain a.first.1)) (by_gain (g.N.Mixing.mixed a.then.1) (g.N.Mixing.gain a.then.1)) a.block a.first.0 a.then.0 a.d a.area.now p.first p.then l.i (omega arith) l.invariant.1 c.two_last.ensures

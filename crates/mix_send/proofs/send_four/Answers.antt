@@ -7,26 +7,14 @@ use Rattle.mix.proofs.Given.{pair_of, row_of}
 use Rattle.mix.proofs.Turns.{four_sent}
 use Rattle.mix_send.proofs.send_four.Goals as goal
 
-pub overflow_cast-s : goal.overflow_cast-s
-overflow_cast-s c = omega (arith, c.type_inv.src 0)
-
-pub overflow_cast-z : goal.overflow_cast-z
-overflow_cast-z c = omega (arith, c.type_inv.src 1)
-
-pub overflow_cast-d : goal.overflow_cast-d
-overflow_cast-d c = omega (arith, c.type_inv.dst 0)
-
-pub overflow_cast-e : goal.overflow_cast-e
-overflow_cast-e c = omega (arith, c.type_inv.dst 1)
-
 pub add_four-requires : goal.add_four-requires
 add_four-requires c =
     let a = c.args in
     let p = c.requires in
     let n = p.four.columns in
     let m = p.four.rows in
-    let d : Row a.block a.src.now (get_or a.dst.now 0 0) a.area.now = row_of refl p.buffers 0 (omega arith) in
-    let e : Row a.block a.src.now (get_or a.dst.now 1 0) a.area.now = row_of refl p.buffers 1 (omega arith) in record {
+    let d : Row a.block a.rows.src.now (get_or a.rows.dst.now 0 0) a.area.now = row_of refl p.buffers 0 (omega arith) in
+    let e : Row a.block a.rows.src.now (get_or a.rows.dst.now 1 0) a.area.now = row_of refl p.buffers 1 (omega arith) in record {
       d = (pair_of refl d 0 (omega arith), pair_of refl d 1 (omega arith));
       e = (pair_of refl e 0 (omega arith), pair_of refl e 1 (omega arith));
       differ = p.four.differ;
@@ -36,4 +24,4 @@ pub returns : goal.returns
 returns c =
     let a = c.args in
     let p = c.requires in
-    four_sent a.block a.t a.weights.now a.src.now a.dst.now a.area.now p.buffers p.four p.sounds c.add_four.ensures
+    four_sent a.block a.t a.rows.weights.now a.rows.src.now a.rows.dst.now a.area.now p.buffers p.four p.sounds c.add_four.ensures

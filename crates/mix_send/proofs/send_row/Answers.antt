@@ -10,41 +10,27 @@ use Rattle.mix.proofs.Given.{pair_of}
 use Rattle.mix.proofs.Turns.{no_source, source_sent, sources_sent, two_sent}
 use Rattle.mix_send.proofs.send_row.Goals as goal
 
-pub overflow_cast-src : goal.overflow_cast-src
-overflow_cast-src c = omega (arith, c.type_inv.src 0)
-
-pub overflow_cast-src-then-w-v : goal.overflow_cast-src-then-w-v
-overflow_cast-src-then-w-v c = omega (arith, c.type_inv.src 1)
-
 pub send_two-requires : goal.send_two-requires
 unfolding eq ne
 send_two-requires c =
     let a = c.args in
     let p = c.requires in
-    let n = c.if-src-eq2.true in
+    let n = c.if-from-eq2.true in
     let b = c.if-w-v.true in record {
-      s = pair_of refl p.row 0 (omega arith);
-      z = pair_of refl p.row 1 (omega arith);
-      weighted = (first_not (is_zero (get_or a.weights.now a.at nan)) (is_zero (get_or a.weights.now (a.at + 1) nan)) b, second_not (is_zero (get_or a.weights.now a.at nan)) (is_zero (get_or a.weights.now (a.at + 1) nan)) b);
-      sounds = p.sounds;
+      first = (pair_of refl p 0 (omega arith), first_not (is_zero (get_or a.from.weights.now a.from.at nan)) (is_zero (get_or a.from.weights.now (a.from.at + 1) nan)) b);
+      then = (pair_of refl p 1 (omega arith), second_not (is_zero (get_or a.from.weights.now a.from.at nan)) (is_zero (get_or a.from.weights.now (a.from.at + 1) nan)) b);
     }
 
 pub returns-then-w-v : goal.returns-then-w-v
 returns-then-w-v c =
     let a = c.args in
-    two_sent a.block a.g a.weights.now a.src.now a.d a.at a.area.now c.if-src-eq2.true c.send_two.ensures
+    two_sent a.block a.g.gain a.from.weights.now a.from.src.now a.d a.from.at a.area.now c.if-from-eq2.true c.send_two.ensures
 
 pub loop-c-init : goal.loop-c-init
-loop-c-init c = let a = c.args in (search rules, refl, no_source a.block a.g a.weights.now a.src.now a.d a.at a.area.now)
-
-pub overflow_cast-s : goal.overflow_cast-s
-overflow_cast-s c = omega (arith, c.type_inv.src c.loop-c.c)
+loop-c-init c = let a = c.args in (search rules, refl, no_source a.block a.g.gain a.from.weights.now a.from.src.now a.d a.from.at a.area.now)
 
 pub send_into-requires : goal.send_into-requires
-send_into-requires c = let l = c.loop-c in record {
-  pair = pair_of l.invariant.1 c.requires.row l.c c.loop-c-test.true;
-  sounds = c.requires.sounds;
-}
+send_into-requires c = let l = c.loop-c in pair_of l.invariant.1 c.requires l.c c.loop-c-test.true
 
 pub loop-c-preserved : goal.loop-c-preserved
 loop-c-preserved c =
@@ -52,10 +38,10 @@ loop-c-preserved c =
     let l = c.loop-c in (
       search rules,
       search rules,
-      source_sent a.block a.g a.weights.now a.src.now a.d a.at l.c l.area (search rules) l.invariant.2 c.send_into.ensures,
+      source_sent a.block a.g.gain a.from.weights.now a.from.src.now a.d a.from.at l.c l.area (search rules) l.invariant.2 c.send_into.ensures,
     )
 
 pub returns : goal.returns
 returns c =
     let a = c.args in
-    let l = c.loop-c in sources_sent a.block a.g a.weights.now a.src.now a.d a.at l.c l.area (omega arith) l.invariant.2
+    let l = c.loop-c in sources_sent a.block a.g.gain a.from.weights.now a.from.src.now a.d a.from.at l.c l.area (omega arith) l.invariant.2

@@ -6,7 +6,7 @@ use Rattle.mix.specs.Mix.{weighs}
 use Rattle.mix_send.proofs.send_row.Given as goal
 
 abbrev pub invariant-loop-c : goal.invariant-loop-c
-invariant-loop-c l = (l.c ≤ l.c-end) × (length l.area ≡ length l.initial.area) × (weighs l.block l.g l.weights (l.at + l.c) (drop l.c l.src) l.d l.area ≡ weighs l.block l.g l.weights l.at l.src l.d l.initial.area)
+invariant-loop-c l = (l.c ≤ l.c-end) × (length l.area ≡ length l.initial.area) × (weighs l.block l.g.gain l.from.weights.now (l.from.at + l.c) (drop l.c l.from.src.now) l.d l.area ≡ weighs l.block l.g.gain l.from.weights.now l.from.at l.from.src.now l.d l.initial.area)
 
 abbrev pub decreases-loop-c : goal.decreases-loop-c
 decreases-loop-c l = l.c-end - l.c

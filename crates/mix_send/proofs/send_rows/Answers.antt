@@ -11,34 +11,25 @@ use Rattle.mix_send.proofs.send_rows.Goals as goal
 
 pub send_four-requires : goal.send_four-requires
 send_four-requires c =
-    let p = c.requires in record {
-      buffers = p.buffers;
+    record {
+      buffers = c.requires;
       four = c.is_four.ensures c.if-is_four.true;
-      sounds = rw c.in-Rest.is at p.sounds;
+      sounds = rw c.in-Rest.is at c.args.g.sounds;
     }
 
 pub returns-in-Rest : goal.returns-in-Rest
 returns-in-Rest c =
     let a = c.args in
-    c.send_four.ensures ∙ ap (λ (g : Gain). sends a.block g a.weights.now 0 a.src.now a.dst.now a.area.now) (sym c.in-Rest.is)
+    c.send_four.ensures ∙ ap (λ (g : Gain). sends a.block g a.rows.weights.now 0 a.rows.src.now a.rows.dst.now a.area.now) (sym c.in-Rest.is)
 
 pub loop-r-init : goal.loop-r-init
-loop-r-init c = let a = c.args in (search rules, refl, no_row_sent a.block a.g a.weights.now a.src.now a.dst.now a.area.now)
+loop-r-init c = let a = c.args in (search rules, refl, no_row_sent a.block a.g.gain a.rows.weights.now a.rows.src.now a.rows.dst.now a.area.now)
 
-pub overflow_cast-d : goal.overflow_cast-d
-overflow_cast-d c = omega (arith, c.type_inv.dst c.loop-r.r)
-
-pub overflow_mul-r : goal.overflow_mul-r
-overflow_mul-r c = omega (arith, ends_before {i = c.loop-r.r} {j = length c.args.dst.now} (length c.args.src.now) c.loop-r-test.true)
+pub overflow_mul-from : goal.overflow_mul-from
+overflow_mul-from c = omega (arith, ends_before {i = c.loop-r.r} {j = length c.args.rows.dst.now} (length c.args.rows.src.now) c.loop-r-test.true)
 
 pub send_row-requires : goal.send_row-requires
-send_row-requires c =
-    let l = c.loop-r in
-    let p = c.requires in record {
-      row = row_of l.invariant.1 p.buffers l.r c.loop-r-test.true;
-      weights = omega (arith, ends_before {i = c.loop-r.r} {j = length c.args.dst.now} (length c.args.src.now) c.loop-r-test.true);
-      sounds = p.sounds;
-    }
+send_row-requires c = let l = c.loop-r in row_of l.invariant.1 c.requires l.r c.loop-r-test.true
 
 pub loop-r-preserved : goal.loop-r-preserved
 loop-r-preserved c =
@@ -46,10 +37,10 @@ loop-r-preserved c =
     let l = c.loop-r in (
       search rules,
       search rules,
-      row_sent a.block a.g a.weights.now a.src.now a.dst.now l.r l.area (search rules) l.invariant.2 c.send_row.ensures,
+      row_sent a.block a.g.gain a.rows.weights.now a.rows.src.now a.rows.dst.now l.r l.area (search rules) l.invariant.2 c.send_row.ensures,
     )
 
 pub returns : goal.returns
 returns c =
     let a = c.args in
-    let l = c.loop-r in rows_sent a.block a.g a.weights.now a.src.now a.dst.now l.r l.area (omega arith) l.invariant.2
+    let l = c.loop-r in rows_sent a.block a.g.gain a.rows.weights.now a.rows.src.now a.rows.dst.now l.r l.area (omega arith) l.invariant.2

@@ -6,7 +6,7 @@ use Rattle.mix.specs.Mix.{sends}
 use Rattle.mix_send.proofs.send_rows.Given as goal
 
 abbrev pub invariant-loop-r : goal.invariant-loop-r
-invariant-loop-r l = (l.r ≤ l.r-end) × (length l.area ≡ length l.initial.area) × (sends l.block l.g l.weights (l.r * length l.src) l.src (drop l.r l.dst) l.area ≡ sends l.block l.g l.weights 0 l.src l.dst l.initial.area)
+invariant-loop-r l = (l.r ≤ l.r-end) × (length l.area ≡ length l.initial.area) × (sends l.block l.g.gain l.rows.weights.now (l.r * length l.rows.src.now) l.rows.src.now (drop l.r l.rows.dst.now) l.area ≡ sends l.block l.g.gain l.rows.weights.now 0 l.rows.src.now l.rows.dst.now l.initial.area)
 
 abbrev pub decreases-loop-r : goal.decreases-loop-r
 decreases-loop-r l = l.r-end - l.r

@@ -6,10 +6,10 @@ pub returns-in-Rest : goal.returns-in-Rest
 returns-in-Rest c =
     let a = c.args in
     let p = c.requires in
-    two_at_rest a.block a.g a.w a.v a.s a.z a.d a.area.now c.in-Rest.is p.weighted.0 p.weighted.1 p.sounds p.s.apart p.z.apart p.s.target c.two_into.ensures
+    two_at_rest a.block a.g.gain a.first.1 a.then.1 a.first.0 a.then.0 a.d a.area.now c.in-Rest.is p.first.1 p.then.1 a.g.sounds p.first.0.apart p.then.0.apart p.first.0.target c.two_into.ensures
 
 pub returns-in-Moving : goal.returns-in-Moving
 returns-in-Moving c =
     let a = c.args in
     let p = c.requires in
-    two_ramping a.block a.g a.w a.v a.s a.z a.d a.area.now c.in-Moving.is p.weighted.0 p.weighted.1 p.s.apart p.z.apart p.s.target c.two_into-in-Moving.ensures
+    two_ramping a.block a.g.gain a.first.1 a.then.1 a.first.0 a.then.0 a.d a.area.now c.in-Moving.is p.first.1 p.then.1 p.first.0.apart p.then.0.apart p.first.0.target c.two_into-in-Moving.ensures

@@ -31,6 +31,5 @@ loop-i-preserved g c =
 pub returns : goal.returns
 returns g c =
     let e : c.loop-i.i ≡ length c.args.x.now = omega arith in record {
-      local = search rules;
       mixed = rw e at c.loop-i.invariant.2;
     }
