@@ -6,7 +6,7 @@ use Prim.Native.Nat.{ℕ, ◌*◌, ◌%◌, ◌≤◌}
 use lib.ListN.{length}
 use lib.Dec.{eqb}
 use borrow.Author.Tests.{ltb-false, eqb-true, not-false}
-use Rattle.lists.proofs.Bools.{or_none}
+use Rattle.std.proofs.lemmas.Bool.{or_parts}
 use Rattle.refusal.specs.declared.Refusal.{Refusal}
 use Rattle.refusal.proofs.Laws.{accepted_none, outcome_accepted, refused_keeps}
 use Rattle.node.specs.Sizes.{node_float_count, node_word_count, max_ramp}
@@ -19,7 +19,7 @@ use Rattle.std.specs.Prelude.{Ok, Err}
 
 pub enough : (l : Lent) → short_nodes l ≡ false → Room l.count l.floats l.words
 enough l e =
-    let a = or_none (shorter (length l.floats) l.count node_float_count) _ e in
+    let a = or_parts (shorter (length l.floats) l.count node_float_count) _ e in
     (ltb-false (length l.floats) (l.count * node_float_count) a.0, ltb-false (length l.words) (l.count * node_word_count) a.1)
 
 -- ---- what an accepted adoption says
@@ -38,9 +38,9 @@ module _ (new old : Lent) (pairs : List ℕ) (ramp : ℕ) where
   unfolding adoption_answer
   adoptable e =
       let t = (accepted_none (adoption_tests new old pairs ramp) (Ok tt) e).0 in
-      let n = or_none _ _ t.0 in
-      let a = or_none (short_nodes new) (short_nodes old) t.1.0 in
-      let b = or_none (bad_nodes new) (bad_nodes old) t.1.1.1.0 in
+      let n = or_parts _ _ t.0 in
+      let a = or_parts (short_nodes new) (short_nodes old) t.1.0 in
+      let b = or_parts (bad_nodes new) (bad_nodes old) t.1.1.1.0 in
       record {
         new_nodes = ltb-false _ _ n.0;
         old_nodes = ltb-false _ _ n.1;

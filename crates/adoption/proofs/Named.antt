@@ -5,7 +5,7 @@ use mathlib.Core.List.{List, [], ◌∷◌}
 use Prim.Native.Nat.{ℕ}
 use lib.Dec.{eqb}
 use borrow.Author.Tests.{eqb-true, eq-eqb}
-use Rattle.lists.proofs.Bools.{or_none}
+use Rattle.std.proofs.lemmas.Bool.{or_parts}
 use Rattle.node.specs.declared.Node.{Node}
 use Rattle.adoption.specs.Adoption.{Lent, node_in, skipped, adopted, adopted_at, stored, pair_adopted, pairs_adopted, pairs_by}
 use Rattle.adoption.specs.Fits.{Fit}
@@ -63,7 +63,7 @@ module _ {start old : Lent} {ramp : ℕ} (i : ℕ) where
   pairs_unnamed [] f k e = refl
   pairs_unnamed (n ∷ []) f k e = refl
   pairs_unnamed (n ∷ o ∷ pairs) f k e =
-      let a = or_none (names start old i n o) (named start old i pairs) e in
+      let a = or_parts (names start old i n o) (named start old i pairs) e in
       pairs_unnamed pairs (pair_fit n o f) (kept_trans k (pair_kept n o f)) a.1 ∙ pair_unnamed i n o f k a.0
 
   -- a node that the pair of old node d made of `first`

@@ -9,7 +9,7 @@ use lib.ListN.{length}
 use lib.Ieee.{Float}
 use lib.Dec.{leb, eqb}
 use borrow.Author.Tests.{lt-leb, leb-false, eqb-true, eq-eqb, not-false}
-use Rattle.lists.proofs.Bools.{or_none}
+use Rattle.std.proofs.lemmas.Bool.{or_parts}
 use Rattle.node.specs.Nodes.{Full}
 use Rattle.node.specs.Areas.{Room, len_at, safe_at, InRange}
 use Rattle.node.proofs.Kept.{full_load}
@@ -44,9 +44,9 @@ module _ (new old : Lent) (n o : ℕ) where
 
   pub not_taken : skipped new old n o ≡ false → Taken new old n o
   not_taken e =
-      let s = or_none (unmatched new old n o) (safe_in new n) e in
-      let a = or_none (leb new.count n || leb old.count o) (not (eqb (len_at new.words n) (len_at old.words o))) s.0 in
-      let b = or_none (leb new.count n) (leb old.count o) a.0 in
+      let s = or_parts (unmatched new old n o) (safe_in new n) e in
+      let a = or_parts (leb new.count n || leb old.count o) (not (eqb (len_at new.words n) (len_at old.words o))) s.0 in
+      let b = or_parts (leb new.count n) (leb old.count o) a.0 in
       record {
         here = leb-false new.count n b.0;
         there = leb-false old.count o b.1;

@@ -8,7 +8,7 @@ use native.Mathlib.Decide.{dec_lt}
 use native.Mathlib.Omega.{arith}
 use lib.Dec.{eqb}
 use borrow.Author.Tests.{le-leb, eqb-true}
-use Rattle.lists.proofs.Bools.{none_or, or_right}
+use Rattle.std.proofs.lemmas.Bool.{or_from, or_right}
 use Rattle.adoption.specs.Adoption.{Lent, node_in, unmatched, safe_in, skipped, pair_by, pairs_by, pair_adopted, pairs_adopted, without_safe, adoption_answer}
 use Rattle.adoption.specs.Fits.{Fit}
 use Rattle.adoption.proofs.Answers.{accepted_fit}
@@ -33,7 +33,7 @@ module _ (new old : Lent) (i : ℕ) (safe : safe_in new i ≡ true) where
   not_named : (pairs : List ℕ) → named new old i pairs ≡ false
   not_named [] = refl
   not_named (n ∷ []) = refl
-  not_named (n ∷ o ∷ pairs) = none_or (names new old i n o) _ (not_names n o) (not_named pairs)
+  not_named (n ∷ o ∷ pairs) = or_from (names new old i n o) _ (not_names n o) (not_named pairs)
 
   -- is the same after any adoption, whatever the list
   pub safe_untouched : (pairs : List ℕ) (ramp : ℕ) → node_in (after new old pairs ramp) i ≡ node_in new i

@@ -9,12 +9,12 @@ use node::Node;
 use plan::Plan;
 use refusal::{Answer, Reason};
 
-// The nodes of one plan, as they are lent: their count and their areas.
+// The nodes of one plan, as they are lent to be read: their count and their areas, which may be longer.
 #[derive(Clone, Copy)]
-struct Nodes<'a> {
-    count: usize,
-    floats: &'a [f32],
-    words: &'a [u32],
+pub struct Nodes<'a> {
+    pub count: usize,
+    pub floats: &'a [f32],
+    pub words: &'a [u32],
 }
 
 impl<'a> Nodes<'a> {
@@ -54,6 +54,8 @@ fn adoption_answer(new: Nodes<'_>, old: Nodes<'_>, pairs: &[u32], ramp: u32) -> 
     }
     Ok(())
 }
+
+// The new plan's nodes are written, so here and below their areas are slices of their own beside the count.
 
 // One pair: node n takes the cur of old node o, and its own target is set again. Requires what the tests leave.
 #[tactic(auto, unfolding(crate::specs::Adoption::pair_by, node::specs::Areas::node_at))]
@@ -122,25 +124,18 @@ pub fn adopt(
     nodes: usize,
     node_floats: &mut [f32],
     node_words: &mut [u32],
-    old_nodes: usize,
-    old_floats: &[f32],
-    old_words: &[u32],
+    old: Nodes<'_>,
     pairs: &[u32],
     ramp: u32,
 ) -> Answer
-    ensures answer { result ≡ adoption_answer (lent nodes node_floats.old node_words.old) (lent old_nodes old_floats.now old_words.now) pairs.now ramp }
-    ensures floats { node_floats.new ≡ adoption_floats (lent nodes node_floats.old node_words.old) (lent old_nodes old_floats.now old_words.now) pairs.now ramp }
-    ensures words { node_words.new ≡ adoption_words (lent nodes node_floats.old node_words.old) (lent old_nodes old_floats.now old_words.now) pairs.now ramp }
+    ensures answer { result ≡ adoption_answer (lent nodes node_floats.old node_words.old) (lent_by old.entry) pairs.now ramp }
+    ensures floats { node_floats.new ≡ adoption_floats (lent nodes node_floats.old node_words.old) (lent_by old.entry) pairs.now ramp }
+    ensures words { node_words.new ≡ adoption_words (lent nodes node_floats.old node_words.old) (lent_by old.entry) pairs.now ramp }
 {
     let new = Nodes {
         count: nodes,
         floats: &node_floats[..],
         words: &node_words[..],
-    };
-    let old = Nodes {
-        count: old_nodes,
-        floats: old_floats,
-        words: old_words,
     };
     adoption_answer(new, old, pairs, ramp)?;
     adopt_pairs(nodes, node_floats, node_words, old, pairs, ramp);

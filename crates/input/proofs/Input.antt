@@ -1,20 +1,19 @@
 -- The channel lookup: it hands back the part of the last entry that matches, or nothing; and a directory that is not bad names no part past
 -- the samples. Assumes nothing.
 use mathlib.Core.Path.{◌≡◌, refl, sym, ap, ◌∙◌}
-use mathlib.Core.Bool.{Bool, true, false, ◌&&◌, ◌||◌, or-true, or-false}
+use mathlib.Core.Bool.{Bool, true, false, ◌&&◌, ◌||◌, or_comm}
 use mathlib.Core.List.{List, [], ◌∷◌}
 use mathlib.Core.Logic.{⊎_elim}
 use Prim.Native.Nat.{ℕ, zero, suc, ◌+◌, ◌-◌, ◌*◌, ◌%◌, ◌≤◌, ◌<◌}
 use native.Mathlib.Omega.{arith}
 use native.Mathlib.Nat.{add-zero, le_of_suc-le-suc, eq-or-lt_of_le}
 use lib.ListN.{length, get_or, drop, length-drop}
-use lib.Seq.{take_all, take-nil}
 use lib.Dec.{ltb, eqb}
 use lib.Ieee.{Float}
 use borrow.Author.Tests.{ltb-false, eqb-true, not-false}
 use Rattle.lists.specs.Parts.{part}
 use Rattle.lists.proofs.Stores.{length_part}
-use Rattle.lists.proofs.Bools.{or_none}
+use Rattle.std.proofs.lemmas.Bool.{or_parts}
 use Rattle.lists.proofs.Scans.{Counted, counted_at}
 use Rattle.input.specs.Input.{entry_words, max_entries, entries, entry_word, entry_for, entry_part, lookup_below, lookup, some_past, directory_bad}
 
@@ -26,12 +25,6 @@ module _ (xs : List Float) (start len : ℕ) where
       go : (ys : List Float) → drop start xs ≡ ys → drop start xs ≡ []
       go [] e = e
       go (y ∷ ys) e = absurd (omega (arith, ap length e, length-drop start xs))
-
-  pub part_past : length xs ≤ start → part start len xs ≡ []
-  part_past h = rw drop_all (take-nil len)
-
-  pub part_cut : length xs - start ≤ len → part start len xs ≡ drop start xs
-  part_cut h = take_all len (drop start xs) (rw length-drop h)
 
 -- the first word of an entry stands at the entry's own place
 pub first_word : (directory : List ℕ) (i : ℕ) → entry_word directory i 0 ≡ get_or directory (i * entry_words) 0
@@ -82,14 +75,9 @@ module _ (directory : List ℕ) (samples : List Float) (input channel : ℕ) whe
       → entry_for directory input channel k ≡ true → lookup directory samples input channel ≡ entry_part directory samples k
   lookup_last k h after here = lookup_below_lem (suc k) h after ∙ looked_yes refl here
 
--- ---- number 12
-or_swap : (a b : Bool) → (a || b) ≡ (b || a)
-or_swap true b = sym (or-true b)
-or_swap false b = sym (or-false b)
-
 pub past_counted : (directory : List ℕ) (m : ℕ) → Counted (some_past directory m) (λ n. ltb m (entry_word directory n 2 + entry_word directory n 3))
 unfolding some_past
-past_counted directory m = record { none = refl; more = λ n. or_swap (some_past directory m n) (ltb m (entry_word directory n 2 + entry_word directory n 3)) }
+past_counted directory m = record { none = refl; more = λ n. or_comm (some_past directory m n) (ltb m (entry_word directory n 2 + entry_word directory n 3)) }
 
 -- what a directory that is not bad says
 pub record Good (directory : List ℕ) (m : ℕ) : Type 0 where
@@ -100,8 +88,8 @@ pub record Good (directory : List ℕ) (m : ℕ) : Type 0 where
 pub directory_good : (directory : List ℕ) (m : ℕ) → directory_bad directory m ≡ false → Good directory m
 unfolding directory_bad
 directory_good directory m e =
-    let b = or_none _ _ e in
-    let a = or_none _ _ b.0 in
+    let b = or_parts _ _ e in
+    let a = or_parts _ _ b.0 in
     record {
       fours = eqb-true _ _ (not-false _ a.0);
       few = ltb-false _ _ a.1;

@@ -17,7 +17,8 @@ const MAX_ENTRIES: usize = 512;
 // A place for each input.
 pub const ENDS: usize = Step::INPUTS as usize;
 
-// The samples from `start` on, `len` at most. Cut by `min`, and searched by `rev` below, they made a Patch slower by a third and more.
+// The samples from `start` on, `len` at most. Three cuts, since by `min` a Patch is slower. `replay` has such a function for the
+// words of its files: this one is not for programs, which have the two calls of the interface alone.
 fn part(samples: &[f32], start: usize, len: usize) -> &[f32]
     ensures { result.now ≡ part start len samples.now }
 {
@@ -33,7 +34,7 @@ fn part(samples: &[f32], start: usize, len: usize) -> &[f32]
 }
 
 // For each input a place from which on no entry is for it: the one behind its last entry, or 0 where it has none. Requires a directory that is
-// not too long, and 0 in each place.
+// not too long, and 0 in each place. The entry's number is what is stored: hence the index.
 pub fn search_ends(directory: &[u32], ends: &mut [u16; ENDS])
     requires { (entries directory.now ≤ max_entries) × (ends.old ≡ replicate inputs 0) }
     ensures { Ends directory.now (entries directory.now) ends.new }
@@ -46,6 +47,8 @@ pub fn search_ends(directory: &[u32], ends: &mut [u16; ENDS])
         }
     }
 }
+
+// Below, a count of entries goes with the whole directory: the ends are such counts, and words behind the last whole entry are no entry.
 
 // Entry i is for the channel. Requires that there is such an entry.
 #[tactic(auto, using(crate::proofs::Input::entry_is))]
@@ -70,7 +73,8 @@ fn entry_part<'a>(directory: &[u32], samples: &'a [f32], i: usize) -> &'a [f32]
     )
 }
 
-// The channel lookup among the first n entries. Requires that there are so many.
+// The channel lookup among the first n entries. Requires that there are so many. Counted by hand, since by `rev` and `min` a run with an entry for each
+// Patch is slower than its budget.
 fn lookup_below<'a>(
     directory: &[u32],
     samples: &'a [f32],
@@ -132,6 +136,7 @@ fn some_past(directory: &[u32], m: usize, n: usize) -> bool
 }
 
 // Number 12, for `samples` samples.
+// Of the samples the count alone is looked at.
 #[tactic(auto, unfolding(crate::specs::Input::directory_bad))]
 pub fn directory_bad(directory: &[u32], samples: usize) -> bool
     ensures { result ≡ directory_bad directory.now samples }

@@ -1,4 +1,4 @@
--- What each test of the check makes of its answer: one law for each way out, of a step, of a turn over the steps, and of the plan.
+-- What the tests of the check make of its answer: a turn over the steps, the areas, and the steps once all else is passed.
 -- Assumes nothing.
 use mathlib.Core.Path.{◌≡◌, refl, ap, ◌∙◌}
 use mathlib.Core.Bool.{Bool, true, false}
@@ -15,8 +15,8 @@ use Rattle.plan.specs.declared.Step.{Step}
 use Rattle.plan.specs.Limits.{unit_limits, bad_block, over_limits}
 use Rattle.plan.specs.Words.{read_at}
 use Rattle.plan.specs.Loops.{counted}
-use Rattle.plan.specs.Check.{id_twice, outside, too_wide, shares, step_tests, steps_tests, checked}
-use Rattle.refusal.specs.declared.Reason.TheVariants.{BlockLength, IdTaken, OutsideTable, OverLimit, SharedBuffer, ShortArea, TooManyValues, UnreadableStep}
+use Rattle.plan.specs.Check.{id_twice, step_tests, steps_tests, checked}
+use Rattle.refusal.specs.declared.Reason.TheVariants.{ShortArea, UnreadableStep}
 use Rattle.std.specs.Prelude.{Ok, Err, Some, None}
 
 -- what is left of n at an i below it
@@ -26,21 +26,6 @@ rest_of h = omega arith
 -- ---- one step, with no step after it
 abbrev pub alone : Plan → List ℕ → ℕ → Step → List Test
 alone p indices place s = step_tests p indices place (Some (s, 0)) (λ _. [])
-
-module _ (p : Plan) (indices : List ℕ) (place : ℕ) (s : Step) where
-  pub step_4 : outside p s ≡ true → first (alone p indices place s) (Ok tt) ≡ Err (refusal OutsideTable (Some place))
-  step_4 e = rw e
-
-  module _ (e4 : outside p s ≡ false) where
-    pub step_7 : too_wide s ≡ true → first (alone p indices place s) (Ok tt) ≡ Err (refusal TooManyValues (Some place))
-    step_7 e = rw (e4, e)
-
-    module _ (e7 : too_wide s ≡ false) where
-      pub step_6 : shares indices s ≡ true → first (alone p indices place s) (Ok tt) ≡ Err (refusal SharedBuffer (Some place))
-      step_6 e = rw (e4, e7, e)
-
-      pub step_accepted : shares indices s ≡ false → first (alone p indices place s) (Ok tt) ≡ Ok tt
-      step_accepted e = rw (e4, e7, e)
 
 -- ---- a turn over the steps: `left` of them are left, and `more` after this one
 module _ (p : Plan) (indices w : List ℕ) (at place : ℕ) {left more : ℕ} (e : left ≡ suc more) where
@@ -76,30 +61,14 @@ module _ (p : Plan) (short : Bool) (indices words steps : List ℕ) where
   abbrev entries : Bool
   entries = some_from p.buffers (take p.indices indices)
 
-  pub check_1 : bad_block p.block ≡ true → checked p short indices words steps ≡ Err (refusal BlockLength None)
-  unfolding checked
-  check_1 e = rw e
-
   module _ (e1 : bad_block p.block ≡ false) where
-    pub check_5 : over_limits unit_limits p ≡ true → checked p short indices words steps ≡ Err (refusal OverLimit None)
-    unfolding checked
-    check_5 e = rw (e1, e)
-
     module _ (e5 : over_limits unit_limits p ≡ false) where
       pub check_2 : short ≡ true → checked p short indices words steps ≡ Err (refusal ShortArea None)
       unfolding checked
       check_2 e = rw (e1, e5, e)
 
       module _ (e2 : short ≡ false) where
-        pub check_4 : entries ≡ true → checked p short indices words steps ≡ Err (refusal OutsideTable None)
-        unfolding checked
-        check_4 e = rw (e1, e5, e2, e)
-
         module _ (e4 : entries ≡ false) where
-          pub check_8 : id_twice words p.nodes ≡ true → checked p short indices words steps ≡ Err (refusal IdTaken None)
-          unfolding checked
-          check_8 e = rw (e1, e5, e2, e4, e)
-
           pub check_steps : id_twice words p.nodes ≡ false
               → checked p short indices words steps ≡ first (steps_tests p indices (take p.words steps) p.steps 0 1) (Ok tt)
           unfolding checked

@@ -14,7 +14,7 @@ pub mod Steps
 pub mod Spans
 -- the input, the node, the slot and the channels of a step that is inside its tables
 pub mod Named
--- one law for each way out of the check
+-- what the tests of the check make of its answer
 pub mod Answers
 -- the channels that the steps append to the output, counted step by step
 pub mod Counting

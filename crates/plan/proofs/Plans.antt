@@ -8,7 +8,7 @@ use native.Mathlib.Nat.{mul-one, div-lt_iff_lt-mul, le-div_iff_mul-le}
 use lib.Dec.{eqb, ltb}
 use lib.ListN.{length}
 use borrow.Author.Tests.{ltb-true, ltb-false, eqb-false, lt-ltb, le-ltb, ne_eqb}
-use Rattle.lists.proofs.Bools.{or_none}
+use Rattle.std.proofs.lemmas.Bool.{or_parts}
 use Rattle.lists.proofs.Scans.{Counted, counted_at, counted_none}
 use Rattle.node.specs.Sizes.{node_float_count, node_word_count}
 use Rattle.node.specs.Areas.{id_at}
@@ -21,7 +21,7 @@ use Rattle.plan.specs.Check.{id_among, id_twice}
 -- ---- numbers 1 and 5
 pub block_none : (block : ℕ) → (bad_block block ≡ false) ↔ ((1 ≤ block) × (block ≤ max_block))
 block_none block =
-    (λ e. let a = or_none _ _ e in (ltb-false _ _ a.0, ltb-false _ _ a.1), λ h. rw (le-ltb block 1 h.0, le-ltb max_block block h.1))
+    (λ e. let a = or_parts _ _ e in (ltb-false _ _ a.0, ltb-false _ _ a.1), λ h. rw (le-ltb block 1 h.0, le-ltb max_block block h.1))
 
 pub record WithinLimits (l : Limits) (p : Plan) : Type 0 where
   pub buffers : p.buffers ≤ l.buffers
@@ -33,10 +33,10 @@ pub record WithinLimits (l : Limits) (p : Plan) : Type 0 where
 pub limits_none : (l : Limits) (p : Plan) → (over_limits l p ≡ false) ↔ WithinLimits l p
 limits_none l p = (
   λ e.
-      let d = or_none _ _ e in
-      let c = or_none _ _ d.0 in
-      let b = or_none _ _ c.0 in
-      let a = or_none _ _ b.0 in
+      let d = or_parts _ _ e in
+      let c = or_parts _ _ d.0 in
+      let b = or_parts _ _ c.0 in
+      let a = or_parts _ _ b.0 in
       record {
         buffers = ltb-false _ _ a.0;
         indices = ltb-false _ _ a.1;
@@ -81,11 +81,11 @@ module _ (p : Plan) where
   pub areas_none : (a : Areas) → (short_areas p a ≡ false) ↔ Room p a
   areas_none a = (
     λ e.
-        let y = or_none _ _ e in
-        let x = or_none _ _ y.0 in
-        let d = or_none _ _ x.0 in
-        let c = or_none _ _ d.0 in
-        let b = or_none _ _ c.0 in
+        let y = or_parts _ _ e in
+        let x = or_parts _ _ y.0 in
+        let d = or_parts _ _ x.0 in
+        let c = or_parts _ _ d.0 in
+        let b = or_parts _ _ c.0 in
         record {
           indices = ones_fit b.0;
           coefficients = ones_fit b.1;
@@ -108,17 +108,11 @@ module _ (p : Plan) where
   pub lists_none : (indices words steps : List ℕ) → (short_lists p indices words steps ≡ false) ↔ ListRoom p indices words steps
   lists_none indices words steps = (
     λ e.
-        let b = or_none _ _ e in
-        let a = or_none _ _ b.0 in
+        let b = or_parts _ _ e in
+        let a = or_parts _ _ b.0 in
         record { entries = ones_fit a.0; nodes = ltb-false _ _ a.1; step_words = ones_fit b.1 },
     λ h. rw (fit_ones h.entries, le-ltb _ _ h.nodes, fit_ones h.step_words),
   )
-
-  -- a call that is lent all six areas is lent these three
-  pub areas_lists : (a : Areas) → short_areas p a ≡ false → short_lists p a.indices a.node_words a.step_words ≡ false
-  areas_lists a e =
-      let r = (areas_none a).0 e in
-      (lists_none a.indices a.node_words a.step_words).1 (record { entries = r.indices; nodes = r.words; step_words = r.steps })
 
 -- ---- number 8
 pub among_counted : (words : List ℕ) (id : ℕ) → Counted (λ n. id_among words n id) (λ n. eqb (id_at words n) id)

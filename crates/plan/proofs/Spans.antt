@@ -13,7 +13,7 @@ use lib.Seq.{get_or-take, get_or-drop, take-take, take_all}
 use borrow.Author.Tests.{leb-true}
 use Rattle.lists.proofs.Stores.{length_part}
 use Rattle.lists.specs.Entries.{some_from, meet, Disjoint}
-use Rattle.lists.proofs.Bools.{or_some}
+use Rattle.std.proofs.lemmas.Bool.{or_cases}
 use Rattle.lists.proofs.Entries.{some_none, some_more, entries_none, meet_none}
 use Rattle.plan.specs.declared.Plan.{Plan}
 use Rattle.plan.specs.declared.Span.{Span}
@@ -96,6 +96,12 @@ module _ (indices : List ℕ) (s d : Span) {xs ys : List ℕ} (es : xs ≡ named
       let m : min d.len s.len ≡ used s d = omega arith in
       rw (n, ed) (take_both s.len d.len (drop d.start indices) ∙ ap (λ (k : ℕ). named indices (first_of k d)) m)
 
+-- a place in the buffers that a span names is below its length
+pub within_len : (indices : List ℕ) (s : Span) (i : ℕ) → i < length (named indices s) → i < s.len
+within_len indices s i l =
+    let k : i < min s.len (length indices - s.start) = rw (length-take, length-drop) at l in
+    omega arith
+
 -- in an index list that ascends, spans of which one ends before the other starts name no buffer both
 module _ (indices : List ℕ) (count : ℕ) (up : Ascending 1 count indices) where
   named_above : (s d : Span) → s.start + s.len ≤ d.start → Within count d → (i j : ℕ) → i < s.len → j < d.len → get_or (named indices s) i 0 < get_or (named indices d) j 0
@@ -103,19 +109,14 @@ module _ (indices : List ℕ) (count : ℕ) (up : Ascending 1 count indices) whe
       let u = up (s.start + i) (d.start + j) (omega arith) (omega arith) in
       rw (named_at indices s i h, named_at indices d j k) (rw (mul-one (s.start + i), mul-one (d.start + j)) at u)
 
-  within_len : (s : Span) (i : ℕ) → i < length (named indices s) → i < s.len
-  within_len s i l =
-      let k : i < min s.len (length indices - s.start) = rw (length-take, length-drop) at l in
-      omega arith
-
   pub apart_none : (s d : Span) → Within count s → Within count d → (span_before s d || span_before d s) ≡ true → meet (named indices s) (named indices d) ≡ false
   apart_none s d ws wd e = (meet_none (named indices s) (named indices d)).1 differ
     where
       differ : Disjoint (named indices s) (named indices d)
       differ i j h k q =
-          let h' = within_len s i h in
-          let k' = within_len d j k in
+          let h' = within_len indices s i h in
+          let k' = within_len indices d j k in
           ⊎_elim
           (λ b. ne_of_lt (named_above s d (leb-true _ _ b) wd i j h' k') q)
           (λ b. ne_of_lt (named_above d s (leb-true _ _ b) ws j i k' h') (sym q))
-          (or_some (span_before s d) (span_before d s) e)
+          (or_cases (span_before s d) (span_before d s) e)

@@ -5,7 +5,7 @@ use mathlib.Core.List.{List}
 use mathlib.Core.Logic.{◌↔◌}
 use Prim.Native.Nat.{ℕ}
 use borrow.Author.Tests.{ltb-false, leb-false, le-ltb, lt-leb}
-use Rattle.lists.proofs.Bools.{or_none}
+use Rattle.std.proofs.lemmas.Bool.{or_parts}
 use Rattle.lists.proofs.Entries.{meet_none}
 use Rattle.plan.specs.declared.Plan.{Plan}
 use Rattle.plan.specs.declared.Span.{Span}
@@ -20,33 +20,33 @@ module _ {index weights : Span → Bool} {Index Weights : Span → Type 0}
   pub outside_none_by : (p : Plan) (x : Step) → (outside_by index weights p x ≡ false) ↔ InsideBy Index Weights p x
   unfolding outside_by
   outside_none_by p (Patch i c d) =
-      (λ e. let a = or_none _ _ e in (leb-false _ _ a.0, leb-false _ _ a.1), λ h. rw (lt-leb _ _ h.0, lt-leb _ _ h.1))
+      (λ e. let a = or_parts _ _ e in (leb-false _ _ a.0, leb-false _ _ a.1), λ h. rw (lt-leb _ _ h.0, lt-leb _ _ h.1))
   outside_none_by p (Gain n s d) = (
     λ e.
-        let b = or_none _ _ e in
-        let a = or_none _ _ b.0 in
+        let b = or_parts _ _ e in
+        let a = or_parts _ _ b.0 in
         (leb-false _ _ a.0, (i-none s).0 a.1, (i-none d).0 b.1),
     λ h. rw (lt-leb _ _ h.0, (i-none s).1 h.1, (i-none d).1 h.2),
   )
   outside_none_by p (Matrix n s d) = (
     λ e.
-        let b = or_none _ _ e in
-        let a = or_none _ _ b.0 in
+        let b = or_parts _ _ e in
+        let a = or_parts _ _ b.0 in
         (leb-false _ _ a.0, (i-none s).0 a.1, (i-none d).0 b.1),
     λ h. rw (lt-leb _ _ h.0, (i-none s).1 h.1, (i-none d).1 h.2),
   )
   outside_none_by p (Clear d) = (λ e. (i-none d).0 e, λ h. (i-none d).1 h)
   outside_none_by p (Send n s d c) = (
     λ e.
-        let y = or_none _ _ e in
-        let x = or_none _ _ y.0 in
-        let b = or_none _ _ x.0 in
-        let a = or_none _ _ b.0 in
+        let y = or_parts _ _ e in
+        let x = or_parts _ _ y.0 in
+        let b = or_parts _ _ x.0 in
+        let a = or_parts _ _ b.0 in
         (leb-false _ _ a.0, (i-none s).0 a.1, (i-none d).0 b.1, (w-none c).0 x.1, ltb-false _ _ y.1),
     λ h. rw (lt-leb _ _ h.0, (i-none s).1 h.1, (i-none d).1 h.2, (w-none c).1 h.3, le-ltb _ _ h.4),
   )
   outside_none_by p (Output s o) =
-      (λ e. let a = or_none _ _ e in ((i-none s).0 a.0, leb-false _ _ a.1), λ h. rw ((i-none s).1 h.0, lt-leb _ _ h.1))
+      (λ e. let a = or_parts _ _ e in ((i-none s).0 a.0, leb-false _ _ a.1), λ h. rw ((i-none s).1 h.0, lt-leb _ _ h.1))
 
 past_none : (n : ℕ) (s : Span) → (past n s ≡ false) ↔ Within n s
 past_none n s = (λ e. ltb-false _ _ e, λ h. le-ltb _ _ h)

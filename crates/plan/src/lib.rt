@@ -92,11 +92,12 @@ impl Limits {
 }
 
 impl Step {
-    // Inputs are 0 to 255, slots 0 to 31.
+    // How many there are, and no kinds: inputs are 0 to 255, slots 0 to 31.
     pub const INPUTS: u32 = 256;
 
     pub const SLOTS: u32 = 32;
 
+    // The word that the record of each step begins with. Its bits say which fields follow, as document 01 lays them out: it numbers no kind.
     pub const PATCH_MAP: u32 = 7;
 
     pub const GAIN_MAP: u32 = 248;

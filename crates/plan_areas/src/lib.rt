@@ -6,12 +6,24 @@ ghost use Rattle.std.specs.Prelude.{◌≡◌, true, false, ◌*◌, ◌<◌, �
 ghost use Rattle.lists.specs.Entries.{some_from};
 ghost use Rattle.node.specs.Sizes.{node_word_count};
 ghost use Rattle.plan.specs.Limits.{unit_limits, bad_block, over_limits};
-ghost use Rattle.plan.specs.Areas.{areas, shorter, short_areas, short_lists};
+ghost use Rattle.plan.specs.Areas.{shorter, short_areas, short_lists};
 ghost use Rattle.plan.specs.Check.{id_among, id_twice};
 ghost use Rattle.plan.specs.Loops.{Ascending};
+ghost use Rattle.plan_areas.specs.Lent.{areas_of};
 
 use node::Node;
 use plan::Plan;
+
+// The areas that are lent with a plan.
+#[derive(Clone, Copy)]
+pub struct Areas<'a> {
+    pub indices: &'a [u32],
+    pub coefficients: &'a [f32],
+    pub node_floats: &'a [f32],
+    pub node_words: &'a [u32],
+    pub steps: &'a [u32],
+    pub buffers: &'a [f32],
+}
 
 // Number 1.
 pub fn bad_block(block: usize) -> bool
@@ -40,6 +52,7 @@ pub fn shorter(n: usize, count: usize, each: usize) -> bool
 }
 
 // Number 2 of a call that is lent these three areas.
+// These three are lent to the check and to the trace, whose walks read two of them: so they go one by one.
 pub fn short_lists(plan: Plan, indices: &[u32], node_words: &[u32], steps: &[u32]) -> bool
     ensures { result ≡ short_lists plan indices.now node_words.now steps.now }
 {
@@ -49,24 +62,18 @@ pub fn short_lists(plan: Plan, indices: &[u32], node_words: &[u32], steps: &[u32
 }
 
 // Number 2 of a call that is lent all six.
-pub fn short_areas(
-    plan: Plan,
-    indices: &[u32],
-    coefficients: &[f32],
-    node_floats: &[f32],
-    node_words: &[u32],
-    steps: &[u32],
-    buffers: &[f32],
-) -> bool
-    ensures { result ≡ short_areas plan (areas indices.now coefficients.now node_floats.now node_words.now steps.now buffers.now) }
+pub fn short_areas(plan: Plan, areas: &Areas<'_>) -> bool
+    ensures { result ≡ short_areas plan (areas_of areas.now) }
 {
-    shorter(indices.len(), plan.indices, 1)
-        | shorter(coefficients.len(), plan.coefficients, 1)
-        | shorter(node_floats.len(), plan.nodes, Node::FLOATS)
-        | shorter(node_words.len(), plan.nodes, Node::WORDS)
-        | shorter(steps.len(), plan.words, 1)
-        | shorter(buffers.len(), plan.buffers, plan.block)
+    shorter(areas.indices.len(), plan.indices, 1)
+        | shorter(areas.coefficients.len(), plan.coefficients, 1)
+        | shorter(areas.node_floats.len(), plan.nodes, Node::FLOATS)
+        | shorter(areas.node_words.len(), plan.nodes, Node::WORDS)
+        | shorter(areas.steps.len(), plan.words, 1)
+        | shorter(areas.buffers.len(), plan.buffers, plan.block)
 }
+
+// ---- the entries of areas. A lent area may be longer than its entries, so each function gets how many there are, which the plan has, beside the area.
 
 // An entry is n or above.
 pub fn some_from(n: usize, entries: &[u32]) -> bool
@@ -76,6 +83,7 @@ pub fn some_from(n: usize, entries: &[u32]) -> bool
 }
 
 // One of the first n nodes has the id. Requires the words of all n.
+// That the words reach past the nodes is a clause of each function that is lent the words alone.
 pub fn id_among(words: &[u32], n: usize, id: u32) -> bool
     requires { n * node_word_count ≤ length words.now }
     ensures { result ≡ id_among words.now n id }
@@ -93,12 +101,7 @@ pub fn ascend(list: &[u32], n: usize, each: usize) -> bool
     requires { (n * each ≤ length list.now) × (0 < each) }
     ensures { result ≡ true → Ascending each n list.now }
 {
-    for i in 1..n {
-        if list[(i - 1) * each] >= list[i * each] {
-            return false;
-        }
-    }
-    true
+    (1..n).all(|i| list[(i - 1) * each] < list[i * each])
 }
 
 // Two of the first n nodes have the same id. Requires the words of all n.

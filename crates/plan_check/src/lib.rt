@@ -2,38 +2,51 @@
 #![tactic(auto)]
 
 ghost use Rattle.std.specs.Prelude.{◌≡◌, false, [], ◌≤◌, Ok, Some};
-ghost use Rattle.refusal.specs.Tests.{first};
+ghost use Rattle.refusal.specs.Tests.{first, refusal};
 ghost use Rattle.plan.specs.Limits.{unit_limits};
 ghost use Rattle.plan.specs.Words.{decoded};
-ghost use Rattle.plan.specs.Areas.{areas, short_lists};
+ghost use Rattle.plan.specs.Areas.{short_lists};
 ghost use Rattle.plan.specs.Check.{step_tests, steps_tests, checked, check_plan};
 ghost use Rattle.plan.specs.Sound.{steps_of};
 ghost use Rattle.plan.specs.Loops.{channels_of, counted};
+ghost use Rattle.plan_areas.specs.Lent.{areas_of};
 
 use plan::{Plan, Step};
-use plan_areas::{ascend, bad_block, id_twice, over_limits, short_areas, short_lists, some_from};
+use plan_areas::{
+    Areas, ascend, bad_block, id_twice, over_limits, short_areas, short_lists, some_from,
+};
 use plan_reader::read_step;
 use plan_steps::indices::Indices;
 use plan_steps::{step_channels, step_outside, step_shares, step_wide};
 use refusal::{Answer, Reason, Refusal};
 
-// One step that was read, at its place from 1.
+// A refusal at a step. Cold and not inlined: the loop over the steps, which nearly always goes on, then keeps its registers for the steps.
+#[cold]
+#[inline(never)]
+fn refused(reason: Reason, place: u32) -> Refusal
+    ensures { result ≡ refusal reason (Some place) }
+{
+    Refusal::at(reason, place)
+}
+
+// One step that was read, at its place from 1. One call of `refused` for the three reasons: each call takes stores in every turn of the loop.
 fn check_step(indices: Indices<'_>, step: Step, place: u32) -> Answer
     ensures { result ≡ first (step_tests indices.entry.plan indices.entry.list.now place (Some (step, 0)) (λ _. [])) (Ok tt) }
 {
-    if step_outside(indices.plan, step) {
-        return Err(Refusal::at(Reason::OutsideTable, place));
-    }
-    if step_wide(step) {
-        return Err(Refusal::at(Reason::TooManyValues, place));
-    }
-    if step_shares(indices, step) {
-        return Err(Refusal::at(Reason::SharedBuffer, place));
-    }
-    Ok(())
+    let reason = if step_outside(indices.plan, step) {
+        Reason::OutsideTable
+    } else if step_wide(step) {
+        Reason::TooManyValues
+    } else if step_shares(indices, step) {
+        Reason::SharedBuffer
+    } else {
+        return Ok(());
+    };
+    Err(refused(reason, place))
 }
 
 // The steps of the step words, each in turn. Requires steps within their limit.
+// A record begins where the one before it ends: hence its place beside the count.
 fn check_steps(indices: Indices<'_>, words: &[u32]) -> Result<usize, Refusal>
     requires { indices.plan.steps ≤ unit_limits.steps }
     ensures { result ≡ counted (first (steps_tests indices.entry.plan indices.entry.list.now words.now indices.entry.plan.steps 0 1) (Ok tt)) (channels_of (decoded words.now indices.entry.plan.steps)) }
@@ -43,7 +56,7 @@ fn check_steps(indices: Indices<'_>, words: &[u32]) -> Result<usize, Refusal>
     for i in 0..indices.plan.steps {
         let place = (i + 1) as u32;
         let Some((step, next)) = read_step(words, at) else {
-            return Err(Refusal::at(Reason::UnreadableStep, place));
+            return Err(refused(Reason::UnreadableStep, place));
         };
         check_step(indices, step, place)?;
         total += step_channels(step) as usize;
@@ -103,49 +116,17 @@ pub fn check_lists(plan: Plan, indices: &[u32], node_words: &[u32], steps: &[u32
 }
 
 // The plan check of a call that is lent all six areas, with the channels of the steps.
-pub fn count_channels(
-    plan: Plan,
-    indices: &[u32],
-    coefficients: &[f32],
-    node_floats: &[f32],
-    node_words: &[u32],
-    steps: &[u32],
-    buffers: &[f32],
-) -> Result<usize, Refusal>
-    ensures { result ≡ counted (check_plan plan (areas indices.now coefficients.now node_floats.now node_words.now steps.now buffers.now)) (channels_of (steps_of plan steps.now)) }
+pub fn count_channels(plan: Plan, areas: &Areas<'_>) -> Result<usize, Refusal>
+    ensures { result ≡ counted (check_plan plan (areas_of areas.now)) (channels_of (steps_of plan areas.now.steps.now)) }
 {
-    let short = short_areas(
-        plan,
-        indices,
-        coefficients,
-        node_floats,
-        node_words,
-        steps,
-        buffers,
-    );
-    check_counting(plan, short, indices, node_words, steps)
+    let short = short_areas(plan, areas);
+    check_counting(plan, short, areas.indices, areas.node_words, areas.steps)
 }
 
 // The plan check as a call of its own.
-pub fn check_plan(
-    plan: Plan,
-    indices: &[u32],
-    coefficients: &[f32],
-    node_floats: &[f32],
-    node_words: &[u32],
-    steps: &[u32],
-    buffers: &[f32],
-) -> Answer
-    ensures { result ≡ check_plan plan (areas indices.now coefficients.now node_floats.now node_words.now steps.now buffers.now) }
+pub fn check_plan(plan: Plan, areas: &Areas<'_>) -> Answer
+    ensures { result ≡ check_plan plan (areas_of areas.now) }
 {
-    count_channels(
-        plan,
-        indices,
-        coefficients,
-        node_floats,
-        node_words,
-        steps,
-        buffers,
-    )?;
+    count_channels(plan, areas)?;
     Ok(())
 }

@@ -31,6 +31,7 @@ fn patch_at(words: &[u32], at: usize) -> Step
     }
 }
 
+// One text for Gain and Matrix: a variant with named fields is no function that could be handed in.
 fn gain_at(words: &[u32], at: usize) -> Step
     requires { at + 5 < length words.now }
     ensures { result ≡ gain_at words.now at }
@@ -84,7 +85,7 @@ fn output_at(words: &[u32], at: usize) -> Step
     }
 }
 
-// Bit 11, which has no field: the bits below it, 0 to 10, have one.
+// Bit 11, which has no field: the bits below it, 0 to 10, have one. It is a bit of a map, and numbers no kind.
 const NO_FIELD: u32 = 2048;
 
 const MAX_FIELDS: usize = 11;
@@ -109,6 +110,7 @@ fn cut_off(map: u32, left: usize) -> bool
 }
 
 // What stands at a place of the step words.
+// One match: a table of functions would lose the constants of its arms.
 #[tactic(auto, using(plan::proofs::Words::reads))]
 pub fn read_step(words: &[u32], at: usize) -> Option<(Step, usize)>
     ensures { result ≡ read_at words.now at }

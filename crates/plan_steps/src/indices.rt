@@ -6,6 +6,7 @@ ghost use Rattle.plan.specs.Loops.{Ascending};
 use plan::Plan;
 
 // The index list of a plan, whose entries are buffers of it. It ascends where it is said to, as the builder's does.
+// The flag has no value beside it: the list is there either way.
 #[derive(Clone, Copy)]
 pub struct Indices<'a> {
     pub plan: Plan,

@@ -4,8 +4,9 @@
 
 pub mod indices;
 
-ghost use Rattle.std.specs.Prelude.{◌≡◌, true, false, ◌||◌, ℕ, ◌+◌, ◌*◌, ◌<◌, ◌≤◌, length};
+ghost use Rattle.std.specs.Prelude.{◌≡◌, false, ◌||◌, ℕ, ◌+◌, ◌*◌, ◌<◌, ◌≤◌, length};
 ghost use Rattle.lists.specs.Entries.{some_from, has, meet};
+ghost use Rattle.lists.specs.Parts.{part};
 ghost use Rattle.sets.specs.Sets.{member, set_size};
 ghost use Rattle.plan.specs.Check.{past, named, outside, used, first_of, too_wide, shares};
 ghost use Rattle.plan.specs.Sound.{Within};
@@ -48,6 +49,7 @@ pub fn first_of(n: u32, span: Span) -> Span
 }
 
 // Number 4.
+// Here and below one match over the closed enum: a closure for each kind is no plainer.
 #[tactic(auto, unfolding(plan::specs::Check::outside_by))]
 pub fn step_outside(plan: Plan, step: Step) -> bool
     ensures { result ≡ outside plan step }
@@ -104,14 +106,14 @@ pub fn step_channels(step: Step) -> u32
     }
 }
 
-// The buffers that a span names. Requires a span within the index list.
-pub fn numbers(indices: &[u32], span: Span) -> &[u32]
-    requires { span.start + span.len ≤ length indices.now }
-    ensures { result.now ≡ named indices.now span }
+// The numbers that a span names: of buffers in the index list, or the weights of a Send. Requires a span within the list.
+pub fn numbers<T: Copy>(list: &[T], span: Span) -> &[T]
+    requires { span.start + span.len ≤ length list.now }
+    ensures { result.now ≡ part span.start span.len list.now }
 {
     let start = span.start as usize;
     let end = start + span.len as usize;
-    &indices[start..end]
+    &list[start..end]
 }
 
 // The entries of a list. Requires entries that a set can have.

@@ -9,7 +9,7 @@ use lib.ListN.{length}
 use lib.Dec.{eqb}
 use lib.Ieee.{Float}
 use borrow.Author.Tests.{ltb-false, eqb-true, not-false}
-use Rattle.lists.proofs.Bools.{or_none}
+use Rattle.std.proofs.lemmas.Bool.{or_parts}
 use Rattle.refusal.specs.declared.Refusal.{Refusal}
 use Rattle.refusal.proofs.Laws.{accepted_none, outcome_accepted, refused_keeps}
 use Rattle.node.specs.Sizes.{node_float_count, node_word_count, max_ramp}
@@ -85,7 +85,7 @@ pub settable : (count id ramp floats : ℕ) (words : List ℕ) → setting_answe
 unfolding setting_answer
 settable count id ramp floats words e =
     let t = (accepted_none (setting_tests count id ramp floats words) (Ok tt) e).0 in
-    let a = or_none _ _ t.1.0 in
+    let a = or_parts _ _ t.1.0 in
     record {
       nodes = ltb-false _ _ t.0;
       floats_room = ltb-false _ _ a.0;
@@ -100,6 +100,10 @@ settable count id ramp floats words e =
 module _ {count id ramp : ℕ} (floats : List Float) {words : List ℕ} (s : Settable count id ramp (length floats) words) where
   pub node_room : Room (node_of words count id + 1) floats words
   node_room = let h = (node_named_lem words count id s.id_known).0 in (omega (arith, s.floats_room), omega (arith, s.words_room))
+
+  -- the areas have the node that was found
+  pub found_room : {n : ℕ} → n ≡ node_of words count id → Room (n + 1) floats words
+  found_room e = rw e node_room
 
   pub node_good : InRange (node_at floats words (node_of words count id))
   node_good = none_bad_at words count s.bad floats (node_of words count id) (node_named_lem words count id s.id_known).0

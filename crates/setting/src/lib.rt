@@ -10,6 +10,8 @@ use node::Node;
 use plan::Plan;
 use refusal::{Answer, Reason};
 
+// A lent area may be longer than its nodes, so here and below the count of the nodes, which the plan has, stands beside it.
+
 // The tests, of `count` nodes in an area of `floats` floats, in their order. It writes nothing.
 #[tactic(auto, unfolding(crate::specs::Setting::setting_answer))]
 fn setting_answer(count: usize, id: u32, ramp: u32, floats: usize, words: &[u32]) -> Answer

@@ -14,7 +14,7 @@ use borrow.Author.Tests.{ltb-false, leb-false}
 use Rattle.lists.specs.Parts.{part}
 use Rattle.lists.proofs.Stores.{take_stored}
 use Rattle.lists.proofs.Filled.{upto_at, upto_past}
-use Rattle.lists.proofs.Bools.{or_none}
+use Rattle.std.proofs.lemmas.Bool.{or_parts}
 use Rattle.refusal.specs.Tests.{Test, test, first, outcome, NoneHolds, Answer}
 use Rattle.refusal.specs.declared.Refusal.{Refusal}
 use Rattle.refusal.proofs.Laws.{first_append, accepted_none, none_accepted, outcome_accepted, refused_keeps}
@@ -140,7 +140,7 @@ module _ (p : Plan) (indices words steps counts lists : List ℕ) where
       says : all ≡ Ok tt → n ≡ slots → AllListed p indices words steps counts lists n
       says a q =
           let t = all_none a in
-          let o = or_none (ltb (length counts) slots) (ltb (length lists) (slots * inputs)) t.1.0 in
+          let o = or_parts (ltb (length counts) slots) (ltb (length lists) (slots * inputs)) t.1.0 in
           let c = outcome_accepted all (counts_of lists_of_lem slots counts) (λ _. counts) a in
           let l = outcome_accepted all (lists_of lists_of_lem slots lists) (λ _. lists) a in
           let counts_room = ltb-false (length counts) slots o.0 in

@@ -12,7 +12,7 @@ use lib.Seq.{sets, sets-eq, length-sets, drop-drop, drop-length, take_all}
 use borrow.Rule.Slice.PartMut.{put_mid, mid_of, Post-is}
 use Rattle.lists.specs.Parts.{part}
 use Rattle.lists.proofs.Stores.{part_sets_before, part_sets_same, get_d_sets}
-use Rattle.lists.proofs.Filled.{upto_more, length_upto}
+use Rattle.lists.proofs.Filled.{upto_more}
 use Rattle.plan.specs.Limits.{inputs}
 use Rattle.trace.specs.Calls.{counts_of, lists_of}
 
@@ -55,13 +55,7 @@ module _ (list : ℕ → List ℕ) where
     pub numbers : counts ≡ counts_of list s counts₀
     pub inputs_behind : lists ≡ lists_of list s lists₀
 
-  pub writing_starts : (n : ℕ) (counts lists : List ℕ) → Writing n counts lists counts lists 0
-  writing_starts n counts lists = record { turns = omega arith; numbers = refl; inputs_behind = refl }
-
 module _ {list : ℕ → List ℕ} {n : ℕ} {counts₀ lists₀ counts lists : List ℕ} {s : ℕ} (c : Writing list n counts₀ lists₀ counts lists s) where
-  pub writing_counts : length counts ≡ length counts₀
-  writing_counts = ap length c.numbers ∙ length_upto (λ s. length (list s)) s counts₀
-
   pub writing_lists : length lists ≡ length lists₀
   writing_lists = ap length c.inputs_behind ∙ length_lists list s lists₀
 
@@ -73,8 +67,3 @@ module _ {list : ℕ → List ℕ} {n : ℕ} {counts₀ lists₀ counts lists : 
         numbers = rw (e, c.numbers) (upto_more (λ s. length (list s)) s counts₀);
         inputs_behind = q ∙ ap (λ (l : List ℕ). sets l (s * inputs) (list s)) c.inputs_behind ∙ ap (λ (k : ℕ). lists_of list k lists₀) (sym (add-one s));
       }
-
-  pub writing_ends : n ≤ s → (counts ≡ counts_of list n counts₀) × (lists ≡ lists_of list n lists₀)
-  writing_ends h =
-      let e : s ≡ n = omega (arith, c.turns) in
-      (c.numbers ∙ ap (λ (k : ℕ). counts_of list k counts₀) e, c.inputs_behind ∙ ap (λ (k : ℕ). lists_of list k lists₀) e)

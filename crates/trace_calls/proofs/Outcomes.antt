@@ -8,7 +8,7 @@ use lib.Dec.{ltb}
 use lib.ListN.{length, drop, take}
 use lib.Seq.{sets, length-take-le}
 use borrow.Author.Tests.{ltb-false, lt-ltb, le-ltb, le-leb, lt-leb}
-use Rattle.lists.proofs.Bools.{or_none}
+use Rattle.std.proofs.lemmas.Bool.{or_parts}
 use Rattle.lists.proofs.Stores.{sets_front}
 use Rattle.refusal.specs.Tests.{refusal, Test, first, Answer}
 use Rattle.refusal.specs.declared.Refusal.{Refusal}
@@ -116,7 +116,7 @@ module _ (p : Plan) (indices words steps counts lists : List ℕ) where
 
   pub room : (n : ℕ) → short n ≡ false → (n ≤ length counts) × (n * inputs ≤ length lists)
   room n e =
-      let t = or_none (ltb (length counts) n) (ltb (length lists) (n * inputs)) e in
+      let t = or_parts (ltb (length counts) n) (ltb (length lists) (n * inputs)) e in
       (ltb-false (length counts) n t.0, ltb-false (length lists) (n * inputs) t.1)
 
   pub all_refused : (r q : Refusal) → all ≡ Err r → q ≡ r

@@ -14,7 +14,7 @@ pub(crate) const SLOTS: usize = Step::SLOTS as usize;
 pub(crate) const LIST_PLACES: usize = Step::INPUTS as usize;
 
 // The count and the list of each of the first n slots, from their sets. Requires at most as many as a plan can have, a set for each of these, and
-// room in both areas.
+// room in both areas. The count goes with whole slices, since what lies behind its part of the two areas stays as it was.
 pub(crate) fn write_lists(area: &[Set], n: usize, counts: &mut [u32], lists: &mut [u16])
     requires { (n ≤ slots) × (length area.now ≡ slot_sets) × (n ≤ length counts.old) × (n * inputs ≤ length lists.old) }
     ensures { (counts.new ≡ counts_of (list_at area.now) n counts.old) × (lists.new ≡ lists_of (list_at area.now) n lists.old) }

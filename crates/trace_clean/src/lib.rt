@@ -39,6 +39,7 @@ fn with_span(plan: Plan, set: Set, indices: &[u32], span: Span) -> Set
 }
 
 // Whether a step may stand where the buffers of the set are written. Requires what the tests said of the plan and of it.
+// Here and below one match over the closed enum: a closure for each kind is no plainer.
 fn clean_step(plan: Plan, set: Set, indices: &[u32], step: Step) -> bool
     requires { Placed plan indices.now step }
     ensures { result ≡ clean_step (member set) (resolved plan indices.now [] step) }
@@ -66,6 +67,7 @@ fn written(plan: Plan, set: Set, indices: &[u32], step: Step) -> Set
 }
 
 // Whether all steps may stand where they do. Requires what the tests said of the plan and its steps.
+// A record begins where the one before it ends: hence its place beside the count.
 pub fn all_clean(plan: Plan, indices: &[u32], steps: &[u32]) -> bool
     requires { Tested plan indices.now steps.now }
     ensures { result ≡ clean (map (resolved plan indices.now []) (decoded steps.now plan.steps)) }

@@ -79,9 +79,6 @@ module _ (f : ℕ → Bool → Bool) (twice : (i : ℕ) (x : Bool) → f i (f i 
     pub kept : length area ≡ length area₀
     pub so : changed f (sources_of area) (drop k dst) ≡ changed f (sources_of area₀) dst
 
-  pub changing_starts : (area : List Set) (dst : List ℕ) → Changing area dst area 0
-  changing_starts area dst = record { turns = omega arith; kept = refl; so = refl }
-
   module _ {area₀ : List Set} {dst : List ℕ} {area : List Set} {k : ℕ} (c : Changing area₀ dst area k) where
     pub changing_on : (next : List Set) → k < length dst → length next ≡ length area
         → ((b i : ℕ) → sources_of next b i ≡ cond (eqb b (get_or dst k 0)) (f i (sources_of area b i)) (sources_of area b i)) → Changing area₀ dst next (k + 1)
@@ -114,9 +111,6 @@ abbrev pub Joining : (ℕ → ℕ → Bool) → List ℕ → Set → ℕ → Typ
 Joining sources src s k = (i : ℕ) → (member s i || union sources (drop k src) i) ≡ union sources src i
 
 module _ (sources : ℕ → ℕ → Bool) (src : List ℕ) where
-  pub joining_starts : (s : Set) → ((i : ℕ) → member s i ≡ false) → Joining sources src s 0
-  joining_starts s e i = ap (λ (b : Bool). b || union sources src i) (e i)
-
   module _ (s : Set) (k : ℕ) (c : Joining sources src s k) where
     pub joining_on : k < length src → (t : Set) → ((i : ℕ) → member t i ≡ (member s i || sources (get_or src k 0) i)) → Joining sources src t (k + 1)
     joining_on h t e i =

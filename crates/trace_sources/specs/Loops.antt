@@ -42,7 +42,7 @@ joined set i own = own || member set i
 
 -- ---- what the tests said of an accepted plan, and the area of its sets
 
--- it has a set for each buffer
+-- the plan has no more buffers than a plan can have, and the area has a set for each of these
 pub record SetRoom (p : Plan) (area : List Set) : Type 0 where
   pub buffers : p.buffers ≤ unit_limits.buffers
   pub sets : length area ≡ unit_limits.buffers

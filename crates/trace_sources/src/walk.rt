@@ -27,7 +27,8 @@ fn with_slot(count: usize, step: Step) -> usize
     named + 1
 }
 
-// The inputs behind the buffers of a span. Requires a span that names buffers, and a set for each buffer of the plan.
+// The inputs behind the buffers of a span. Requires a span that names buffers of a plan within its limit of buffers, and a set for each buffer that a
+// plan can have.
 fn behind_span(plan: Plan, indices: &[u32], area: &[Set], src: Span) -> Set
     requires { Names plan indices.now src × SetRoom plan area.now }
     ensures { (i : ℕ) → member result i ≡ union (sources_of area.now) (named indices.now src) i }
@@ -43,7 +44,7 @@ fn patch(area: &mut [Set], input: u32, dst: u32)
     area[dst as usize] = Set::empty().with(input);
 }
 
-// Gain and Matrix. Requires two spans that name buffers, and a set for each buffer of the plan.
+// Gain and Matrix. Requires as `behind_span`, of both spans. A function of its own beside `send`, which adds: each has the definition of its kind of step.
 fn replace(plan: Plan, indices: &[u32], area: &mut [Set], src: Span, dst: Span)
     requires { Spans plan indices.now area.old src dst }
     ensures { sources_of area.new ≡ changed (λ i own. union (sources_of area.old) (named indices.now src) i) (sources_of area.old) (named indices.now dst) }
@@ -69,7 +70,8 @@ fn send(plan: Plan, indices: &[u32], area: &mut [Set], src: Span, dst: Span)
     add(area, plan_steps::numbers(indices, dst), more);
 }
 
-// The sets after a step. Requires what the tests said of the plan and of it, and a set for each buffer of the plan.
+// The sets after a step. Requires what the tests said of the plan and of it, and a set for each buffer that a plan can have.
+// One match over the closed enum: a closure for each kind is no plainer.
 fn spread(plan: Plan, indices: &[u32], area: &mut [Set], step: Step)
     requires { Fit plan indices.now area.old step }
     ensures { sources_of area.new ≡ spread (sources_of area.old) (resolved plan indices.now [] step) }
@@ -99,7 +101,9 @@ fn join(plan: Plan, indices: &[u32], area: &[Set], slots: &mut [Set], step: Step
 
 // The sets of the slots after all steps, from those that both areas hold, which change step by step; and the count of the slots. What the sets of
 // the buffers are then is left open: nothing reads them. Requires what the tests said of the plan and its steps, and a set for each buffer that a
-// plan can have and for each slot.
+// plan can have and for each slot. Not inlined: where it is, `behind` fills its sets twice.
+// A record begins where the one before it ends: hence its place beside the count.
+#[inline(never)]
 fn walk(plan: Plan, indices: &[u32], steps: &[u32], area: &mut [Set], slots: &mut [Set]) -> usize
     requires { Tested plan indices.now steps.now × (length area.old ≡ unit_limits.buffers) × (length slots.old ≡ slot_sets) }
     ensures count { result ≡ slot_count (map (resolved plan indices.now []) (decoded steps.now plan.steps)) }

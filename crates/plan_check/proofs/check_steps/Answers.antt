@@ -13,7 +13,7 @@ loop-i-init c = (counting_starts _ _, rw sub-zero)
 
 pub returns-in_default : goal.returns-in_default
 returns-in_default c =
-    counted_refused _ c.at.ensures
+    counted_refused _ c.refused.ensures
     (c.loop-i.invariant.1 ∙ turn_bad _ _ _ _ _ (rest_of c.loop-i-test.true) (sym c.read_step.ensures ∙ c.in_default.is))
 
 pub returns-in_err-check_step : goal.returns-in_err-check_step

@@ -2,7 +2,7 @@
 -- buffers, and so below 256. Assumes nothing.
 use mathlib.Core.Path.{sym, ap, ◌∙◌}
 use Rattle.lists.specs.Entries.{some_from}
-use Rattle.lists.proofs.Bools.{and_both}
+use Rattle.std.proofs.lemmas.Bool.{and_parts}
 use Rattle.sets.specs.Sets.{set_size}
 use Rattle.plan.proofs.Spans.{names, names_low, apart_none}
 use Rattle.plan_steps.proofs.spans_meet.Goals as goal
@@ -11,7 +11,7 @@ pub returns-then-indices-spans_apart : goal.returns-then-indices-spans_apart
 returns-then-indices-spans_apart c =
     let a = c.args in
     let i = a.indices in
-    let t = and_both _ _ c.if-indices-spans_apart.true in
+    let t = and_parts _ _ c.if-indices-spans_apart.true in
     sym (apart_none i.list.now i.plan.indices (i.ascends t.0) a.src a.dst c.requires.0 c.requires.1 (sym c.spans_apart.ensures ∙ t.1))
 
 pub lists_meet-requires : goal.lists_meet-requires

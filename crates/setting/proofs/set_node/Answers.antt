@@ -1,18 +1,13 @@
 -- `setting::set_node` meets its contract. Assumes nothing.
 use mathlib.Core.Path.{◌∙◌}
-use Prim.Native.Nat.{◌+◌}
-use Rattle.node.specs.Areas.{Room}
-use Rattle.setting.proofs.Setting.{settable, node_room, node_good, floats_stored, words_stored}
+use Rattle.setting.proofs.Setting.{settable, found_room, node_good, floats_stored, words_stored}
 use Rattle.setting.proofs.set_node.Goals as goal
 
 pub node_of-n-requires : goal.node_of-n-requires
 node_of-n-requires c = (settable _ _ _ _ _ c.requires).words_room
 
 pub load-node-requires : goal.load-node-requires
-load-node-requires c =
-    -- the areas have the node that was found
-    let room : (let a = c.args in Room (c.node_of-n.result + 1) a.node_floats.now a.node_words.now) = rw c.node_of-n.ensures (node_room c.args.node_floats.now (settable _ _ _ _ _ c.requires)) in
-    room
+load-node-requires c = found_room c.args.node_floats.now (settable _ _ _ _ _ c.requires) c.node_of-n.ensures
 
 pub set-requires : goal.set-requires
 set-requires c =
@@ -20,9 +15,7 @@ set-requires c =
     (rw (c.load-node.ensures, c.node_of-n.ensures) (node_good c.args.node_floats.now f).len, f.ramp_short)
 
 pub store-requires : goal.store-requires
-store-requires c =
-    let room : (let a = c.args in Room (c.node_of-n.result + 1) a.node_floats.now a.node_words.now) = rw c.node_of-n.ensures (node_room c.args.node_floats.now (settable _ _ _ _ _ c.requires)) in
-    room
+store-requires c = found_room c.args.node_floats.now (settable _ _ _ _ _ c.requires) c.node_of-n.ensures
 
 pub returns : goal.returns
 returns c =

@@ -3,13 +3,14 @@ use mathlib.Core.Path.{◌≡◌, refl, sym, ap, ◌∙◌}
 use native.Mathlib.Omega.{arith}
 use lib.ListN.{length}
 use Rattle.trace.specs.Sources.{no_sources, behind, source_list}
-use Rattle.trace.specs.Calls.{traced_steps}
+use Rattle.trace.specs.Calls.{traced_steps, trace_answer, sources_answer, sources_area}
 use Rattle.trace_sources.specs.Loops.{slot_sets, set_at, list_at}
 use Rattle.trace_sources.proofs.Stored.{empties_or}
 use Rattle.trace_calls.proofs.Outcomes.{by_plan, by_15, by_2, by_none, refused, listed, set_listed, tested, step_words, few, checks}
 use Rattle.trace_calls.proofs.output_sources.Goals.{In_ok-check_lists, After-behind-n}
 use Rattle.trace_calls.proofs.output_sources.Goals as goal
-use Rattle.std.specs.Prelude.{Ok}
+use Rattle.refusal.specs.declared.Refusal.{Refusal}
+use Rattle.std.specs.Prelude.{Ok, Err}
 use Rattle.std.proofs.lemmas.Result.{err_from_is_err_and}
 
 -- the plan check accepted
@@ -23,6 +24,13 @@ found c =
     let xs = traced_steps a.plan a.indices.now a.steps.now in
     let b = c.behind-n in
     set_listed b.new.slots xs (empties_or slot_sets c.empty-slots.result c.empty-slots.ensures b.new.slots (λ s i. behind s no_sources xs i) b.ensures.sets) a.slot
+
+-- a refusal of the call's own, by the answer of its tests
+refusing : (c : In_ok-check_lists) (r q : Refusal) → trace_answer c.args.plan c.args.slot c.args.indices.now c.args.node_words.now c.args.steps.now (length c.args.list.now) ≡ Err r
+    → q ≡ r
+    → (Err q ≡ sources_answer c.args.plan c.args.slot c.args.indices.now c.args.node_words.now c.args.steps.now (length c.args.list.now))
+    × (c.args.list.now ≡ sources_area c.args.plan c.args.slot c.args.indices.now c.args.node_words.now c.args.steps.now c.args.list.now)
+refusing c = let a = c.args in refused a.plan a.slot a.indices.now a.node_words.now a.steps.now a.list.now
 
 pub returns-in_err-check_lists : goal.returns-in_err-check_lists
 returns-in_err-check_lists c =
@@ -45,8 +53,8 @@ behind-n-requires c =
 pub returns-then-n-slot : goal.returns-then-n-slot
 returns-then-n-slot c =
     let a = c.args in
-    let r = refused a.plan a.slot a.indices.now a.node_words.now a.steps.now a.list.now _ _
-    (by_15 a.plan a.slot a.indices.now a.node_words.now a.steps.now a.list.now (accepted (goal.at.returns-then-n-slot c).In_ok-check_lists) (omega (arith, c.if-n-slot.true, c.behind-n.ensures.count))) c.into.ensures in
+    let d = (goal.at.returns-then-n-slot c).In_ok-check_lists in
+    let r = refusing d _ _ (by_15 a.plan a.slot a.indices.now a.node_words.now a.steps.now a.list.now (accepted d) (omega (arith, c.if-n-slot.true, c.behind-n.ensures.count))) c.into.ensures in
     record {
       answer = r.0;
       list = r.1;
@@ -61,8 +69,8 @@ bounds-slots-slot c =
 pub returns-then-list-count : goal.returns-then-list-count
 returns-then-list-count c =
     let a = c.args in
-    let r = refused a.plan a.slot a.indices.now a.node_words.now a.steps.now a.list.now _ _
-    (by_2 a.plan a.slot a.indices.now a.node_words.now a.steps.now a.list.now (accepted (goal.at.returns-then-list-count c).In_ok-check_lists) (omega (arith, c.if-n-slot.false, c.behind-n.ensures.count))
+    let d = (goal.at.returns-then-list-count c).In_ok-check_lists in
+    let r = refusing d _ _ (by_2 a.plan a.slot a.indices.now a.node_words.now a.steps.now a.list.now (accepted d) (omega (arith, c.if-n-slot.false, c.behind-n.ensures.count))
     (omega (arith, c.if-list-count.true, c.count-count.ensures ∙ ap length (found (goal.at.returns-then-list-count c).After-behind-n)))) c.into-then-list-count.ensures in
     record {
       answer = r.0;
