@@ -27,6 +27,8 @@ use Rattle.plan.specs.Limits.{max_block}
 use Rattle.plan.specs.Check.{named, used, first_of}
 use Rattle.plan.specs.Sound.{Within, Names}
 use Rattle.plan.proofs.Spans.{names_length, names_first, used_sources, used_targets}
+use Rattle.run.specs.declared.Wires.{Wires}
+use Rattle.run.specs.Run.{RunGiven}
 use Rattle.run_kinds.specs.Loops.{NodeFit}
 
 -- ---- buffers
@@ -55,7 +57,7 @@ pub used_named : (indices : List ℕ) (s d : Span) → Within (length indices) d
 used_named indices s d h es ed = used_sources indices s d es ed h
 
 -- ---- the rows of a node, as the sample loops take them
-pub rows_values : (floats : List Float) (n m : ℕ) → (n + 1) * node_float_count ≤ length floats → m ≤ max_values → {rows : Rows}
+rows_values : (floats : List Float) (n m : ℕ) → (n + 1) * node_float_count ≤ length floats → m ≤ max_values → {rows : Rows}
     → rows.cur.now ≡ cur_at floats n → rows.target.now ≡ target_at floats n → rows.step.now ≡ step_at floats n → Values m rows
 rows_values floats n m r h c t s =
     let l = length_rows floats n r in
@@ -66,37 +68,46 @@ pub same_call : {A : Type 0} {G : Type 0} (f : G → List ℕ → List ℕ → A
 same_call f p q r = cc
 
 -- ---- a step's node
-module _ {p : Plan} {indices : List ℕ} {floats : List Float} {words : List ℕ} {buffers : List Float} {n : ℕ} {src dst : Span}
-    (f : NodeFit p indices floats words buffers n src dst) where
-  pub node_room : Room (n + 1) floats words
+module _ {g : RunGiven} {floats : List Float} {words : List ℕ} {buffers : List Float} {w : Wires} (f : NodeFit g floats words buffers w) where
+  abbrev src : Span
+  src = w.src
+
+  abbrev dst : Span
+  dst = w.dst
+
+  pub node_room : Room (w.node + 1) floats words
   node_room = let h = f.node in (omega (arith, f.room.0), omega (arith, f.room.1))
 
-  pub node_len : len_at words n ≤ max_values
+  pub node_len : len_at words w.node ≤ max_values
   unfolding node_at
-  node_len = (none_bad_at words p.nodes f.good floats n f.node).len
+  node_len = (none_bad_at words g.plan.nodes f.good floats w.node f.node).len
 
-  pub sources_length : {xs : List ℕ} → xs ≡ named indices src → length xs ≡ src.len
-  sources_length e = ap length e ∙ names_length p indices src f.sources
+  pub sources_length : {xs : List ℕ} → xs ≡ named g.indices src → length xs ≡ src.len
+  sources_length e = ap length e ∙ names_length g.plan g.indices src f.sources
 
-  pub targets_length : {xs : List ℕ} → xs ≡ named indices dst → length xs ≡ dst.len
-  targets_length e = ap length e ∙ names_length p indices dst f.targets
+  pub targets_length : {xs : List ℕ} → xs ≡ named g.indices dst → length xs ≡ dst.len
+  targets_length e = ap length e ∙ names_length g.plan g.indices dst f.targets
 
-  pub step_apart : Disjoint (named indices src) (named indices dst) → {xs ys : List ℕ} → xs ≡ named indices src → ys ≡ named indices dst
-      → Buffers p.block xs ys buffers
-  step_apart a es ed = spans_apart p indices buffers f.area f.block src dst f.sources f.targets a es ed
+  pub step_apart : Disjoint (named g.indices src) (named g.indices dst) → {xs ys : List ℕ} → xs ≡ named g.indices src → ys ≡ named g.indices dst
+      → Buffers g.plan.block xs ys buffers
+  step_apart a es ed = spans_apart g.plan g.indices buffers f.area f.block src dst f.sources f.targets a es ed
 
-  pub gain_apart : Disjoint (named indices (first_of (used src dst) src)) (named indices (first_of (used src dst) dst)) → {xs ys : List ℕ}
-      → xs ≡ named indices src → ys ≡ named indices dst → Buffers p.block (mix.used xs ys) (mix.used ys xs) buffers
+  pub gain_apart : Disjoint (named g.indices (first_of (used src dst) src)) (named g.indices (first_of (used src dst) dst)) → {xs ys : List ℕ}
+      → xs ≡ named g.indices src → ys ≡ named g.indices dst → Buffers g.plan.block (mix.used xs ys) (mix.used ys xs) buffers
   gain_apart a {xs} {ys} es ed =
-      spans_apart p indices buffers f.area f.block (first_of (used src dst) src) (first_of (used src dst) dst)
-      (names_first p indices src f.sources (used src dst) (omega arith)) (names_first p indices dst f.targets (used src dst) (omega arith)) a
-      (used_named indices src dst f.targets.within es ed) (used_targets indices src dst es ed f.sources.within)
+      spans_apart g.plan g.indices buffers f.area f.block (first_of (used src dst) src) (first_of (used src dst) dst)
+      (names_first g.plan g.indices src f.sources (used src dst) (omega arith)) (names_first g.plan g.indices dst f.targets (used src dst) (omega arith)) a
+      (used_named g.indices src dst f.targets.within es ed) (used_targets g.indices src dst es ed f.sources.within)
+
+  pub node_rows : (m : ℕ) → m ≤ max_values → {rows : Rows} → rows.cur.now ≡ cur_at floats w.node → rows.target.now ≡ target_at floats w.node
+      → rows.step.now ≡ step_at floats w.node → Values m rows
+  node_rows m = rows_values floats w.node m node_room.0
 
   -- a value or a weight for each row and column
-  pub values_count : (k : ℕ) → src.len * dst.len ≤ k → {xs ys : List ℕ} → xs ≡ named indices src → ys ≡ named indices dst → length ys * length xs ≤ k
+  pub values_count : (k : ℕ) → src.len * dst.len ≤ k → {xs ys : List ℕ} → xs ≡ named g.indices src → ys ≡ named g.indices dst → length ys * length xs ≤ k
   values_count k h es ed = rw (targets_length ed, sources_length es, mul_comm dst.len src.len) h
 
-  pub used_count : used src dst ≤ max_values → {xs ys : List ℕ} → xs ≡ named indices src → ys ≡ named indices dst → min (length xs) (length ys) ≤ max_values
+  pub used_count : used src dst ≤ max_values → {xs ys : List ℕ} → xs ≡ named g.indices src → ys ≡ named g.indices dst → min (length xs) (length ys) ≤ max_values
   used_count h es ed = rw (sources_length es, targets_length ed) h
 
 -- ---- what Patch writes

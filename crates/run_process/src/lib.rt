@@ -6,55 +6,38 @@ mod answers;
 mod steps;
 
 ghost use Rattle.std.specs.Prelude.{◌≡◌};
-ghost use Rattle.run.specs.Run.{given, state, processed, process_answer};
+ghost use Rattle.run.specs.Run.{state, processed, process_answer};
+ghost use Rattle.run.specs.Lent.{given_by};
 
 pub use answers::admission;
-use plan::Plan;
 use refusal::Refusal;
+use run::Given;
 pub use steps::run_block;
 
 // One block of a plan: its steps, in order, over the lent areas.
 pub fn process(
-    plan: Plan,
-    indices: &[u32],
-    coefficients: &[f32],
+    given: &Given<'_>,
     node_floats: &mut [f32],
     node_words: &mut [u32],
-    steps: &[u32],
     buffers: &mut [f32],
-    directory: &[u32],
-    samples: &[f32],
     output: &mut [f32],
 ) -> Result<usize, Refusal>
-    ensures answer { result ≡ process_answer (given plan indices.now coefficients.now steps.now directory.now samples.now) (state node_floats.old node_words.old buffers.old output.old 0) }
-    ensures floats { node_floats.new ≡ (processed (given plan indices.now coefficients.now steps.now directory.now samples.now) (state node_floats.old node_words.old buffers.old output.old 0)).floats }
-    ensures words { node_words.new ≡ (processed (given plan indices.now coefficients.now steps.now directory.now samples.now) (state node_floats.old node_words.old buffers.old output.old 0)).words }
-    ensures buffers { buffers.new ≡ (processed (given plan indices.now coefficients.now steps.now directory.now samples.now) (state node_floats.old node_words.old buffers.old output.old 0)).buffers }
-    ensures output { output.new ≡ (processed (given plan indices.now coefficients.now steps.now directory.now samples.now) (state node_floats.old node_words.old buffers.old output.old 0)).output }
+    ensures answer { result ≡ process_answer (given_by given.now) (state node_floats.old node_words.old buffers.old output.old 0) }
+    ensures floats { node_floats.new ≡ (processed (given_by given.now) (state node_floats.old node_words.old buffers.old output.old 0)).floats }
+    ensures words { node_words.new ≡ (processed (given_by given.now) (state node_floats.old node_words.old buffers.old output.old 0)).words }
+    ensures buffers { buffers.new ≡ (processed (given_by given.now) (state node_floats.old node_words.old buffers.old output.old 0)).buffers }
+    ensures output { output.new ≡ (processed (given_by given.now) (state node_floats.old node_words.old buffers.old output.old 0)).output }
 {
     admission(
-        plan,
-        indices,
-        coefficients,
+        given,
         &node_floats[..],
         &node_words[..],
-        steps,
         &buffers[..],
-        directory,
-        samples,
         &output[..],
     )?;
-    let count = plan.words;
-    Ok(run_block(
-        plan,
-        indices,
-        coefficients,
-        node_floats,
-        node_words,
-        &steps[..count],
-        buffers,
-        directory,
-        samples,
-        output,
-    ))
+    let counted = Given {
+        steps: &given.steps[..given.plan.words],
+        ..*given
+    };
+    Ok(run_block(&counted, node_floats, node_words, buffers, output))
 }

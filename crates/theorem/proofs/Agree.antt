@@ -12,7 +12,7 @@ use lib.ListN.{length, get_or}
 use lib.Ieee.{Float, nan}
 use borrow.Author.Tests.{eqb-true}
 use Rattle.lists.specs.Entries.{has}
-use Rattle.lists.proofs.Bools.{or_some}
+use Rattle.std.proofs.lemmas.Bool.{or_cases}
 use Rattle.node.specs.declared.Gain.{Gain}
 use Rattle.node.specs.declared.Gain.TheVariants.{Rest, Moving}
 use Rattle.node.specs.Nodes.{factor}
@@ -109,7 +109,7 @@ module _ (b₁ k₁ b₂ k₂ : ℕ) (h₁ : k₁ < b₁) (h₂ : k₂ < b₂) w
 
     first_or_later : (d : ℕ) (dst : List ℕ) (b : ℕ) → has (d ∷ dst) b ≡ true → (b ≡ d) ⊎ (has dst b ≡ true)
     unfolding has
-    first_or_later d dst b e = go (or_some (eqb d b) (has dst b) e)
+    first_or_later d dst b e = go (or_cases (eqb d b) (has dst b) e)
       where
         go : (eqb d b ≡ true) ⊎ (has dst b ≡ true) → (b ≡ d) ⊎ (has dst b ≡ true)
         go (inl p) = inl (sym (eqb-true d b p))

@@ -11,7 +11,7 @@ use lib.ListN.{length, get_or}
 use lib.Ieee.{Float, nan}
 use borrow.Author.Tests.{eqb-true, eqb-false, eq-eqb, leb-true}
 use Rattle.lists.specs.Entries.{has}
-use Rattle.lists.proofs.Bools.{and_both, or_left, or_right, and_intro}
+use Rattle.std.proofs.lemmas.Bool.{and_parts, or_left, or_right, and_from}
 use Rattle.node.specs.declared.Node.{Node}
 use Rattle.node.specs.declared.Gain.{Gain}
 use Rattle.node.specs.Nodes.{gain_of}
@@ -87,7 +87,7 @@ module _ (count m b₁ k₁ b₂ k₂ : ℕ) (h₁ : k₁ < b₁) (h₂ : k₂ <
     unfolding all union
     all_same [] e u = tt
     all_same (s ∷ src) e u =
-        let h = and_both (w s) (all w src) e in (
+        let h = and_parts (w s) (all w src) e in (
           inv s h.0 (λ i p. u i (or_left (sources s i) (union sources src i) p)),
           all_same src h.1 (λ i p. u i (or_right (sources s i) (union sources src i) p)),
         )
@@ -143,7 +143,7 @@ module _ (count m b₁ k₁ b₂ k₂ : ℕ) (h₁ : k₁ < b₁) (h₂ : k₂ <
     unfolding stepped clean_step spread written_after union all
     step_listed (patch j c d) o e b v u = patched_same sources w s₁.buffers s₂.buffers inv j c d o.1.0 room b v u
     step_listed (gain n src dst) o e b v u =
-        let c = and_both (leb (length dst) (length src)) (all w src) e in
+        let c = and_parts (leb (length dst) (length src)) (all w src) e in
         subst (λ (node : Node). Same (gained b₁ (gains₁ n) 0 src dst s₁.buffers) (gained b₂ (λ i. gain_of node i) 0 src dst s₂.buffers) b) (t.same n o.0.0)
         (anew sources w s₁.buffers s₂.buffers inv src dst (gained b₁ (gains₁ n) 0 src dst s₁.buffers) (gained b₂ (gains₁ n) 0 src dst s₂.buffers)
         (λ a. gained_paired b₁ k₁ b₂ k₂ h₁ h₂ m (gains₁ n) (even count m b₁ k₁ b₂ k₂ h₁ h₂ s₁.floats s₁.words t.steady n o.0.0) 0 src dst s₁.buffers s₂.buffers room o.1 a
@@ -162,7 +162,7 @@ module _ (count m b₁ k₁ b₂ k₂ : ℕ) (h₁ : k₁ < b₁) (h₂ : k₂ <
         (λ b p. let q = none_of dst b p in (cleared_other b₁ b k₁ h₁ dst s₁.buffers q, cleared_other b₂ b k₂ h₂ dst s₂.buffers q))
         refl b v u
     step_listed (send n src dst weights) o e b v u =
-        let c = and_both (all w src) (all w dst) e in
+        let c = and_parts (all w src) (all w dst) e in
         subst (λ (node : Node). Same (sends b₁ (gains₁ n 0) weights 0 src dst s₁.buffers) (sends b₂ (gain_of node 0) weights 0 src dst s₂.buffers) b) (t.same n o.0.0)
         (more sources w s₁.buffers s₂.buffers inv src dst (sends b₁ (gains₁ n 0) weights 0 src dst s₁.buffers) (sends b₂ (gains₁ n 0) weights 0 src dst s₂.buffers)
         (λ a. sends_paired b₁ k₁ b₂ k₂ h₁ h₂ m (gains₁ n 0) (even count m b₁ k₁ b₂ k₂ h₁ h₂ s₁.floats s₁.words t.steady n o.0.0 0) weights 0 src dst s₁.buffers s₂.buffers room o.1 a)
@@ -190,7 +190,7 @@ module _ (count m b₁ k₁ b₂ k₂ : ℕ) (h₁ : k₁ < b₁) (h₂ : k₂ <
         → Going (spread sources x) (written_after w x) xs (q + channels_out x) (stepped b₁ input₁ x s₁) (stepped b₂ input₂ x s₂)
     unfolding clean_from behind
     going_on sources w x xs q s₁ s₂ g =
-        let e = and_both (clean_step w x) (clean_from (written_after w x) xs) g.clean in
+        let e = and_parts (clean_step w x) (clean_from (written_after w x) xs) g.clean in
         let n : q + channels_out x + output_channels xs ≡ q + output_channels (x ∷ xs) = rw (channels_more x xs) (omega arith) in
         record {
           nodes = nodes_step count m b₁ k₁ b₂ k₂ h₁ h₂ input₁ input₂ s₁ s₂ g.nodes x g.in_plan.0;
@@ -209,10 +209,10 @@ module _ (count m b₁ k₁ b₂ k₂ : ℕ) (h₁ : k₁ < b₁) (h₂ : k₂ <
     own_same : (sources : ℕ → ℕ → Bool) (w : ℕ → Bool) (q : ℕ) (s₁ s₂ : State) → Going sources w (output src s ∷ after) q s₁ s₂ → All (Same s₁.buffers s₂.buffers) src
     unfolding clean_from clean_step behind joins has
     own_same sources w q s₁ s₂ g =
-        all_same sources w s₁.buffers s₂.buffers g.listed src (and_both (all w src) (clean_from (written_after w (output src s)) after) g.clean).0
+        all_same sources w s₁.buffers s₂.buffers g.listed src (and_parts (all w src) (clean_from (written_after w (output src s)) after) g.clean).0
         (λ i p. g.within i
         (or_left (has (s ∷ []) s && union sources src i) (behind s (spread sources (output src s)) after i)
-        (and_intro (has (s ∷ []) s) (union sources src i) (or_left (eqb s s) false (eq-eqb s s refl)) p)))
+        (and_from (has (s ∷ []) s) (union sources src i) (or_left (eqb s s) false (eq-eqb s s refl)) p)))
 
     pub same_sample : (before : List Resolved) (sources : ℕ → ℕ → Bool) (w : ℕ → Bool) (q : ℕ) (s₁ s₂ : State) → Going sources w (before ++ output src s ∷ after) q s₁ s₂
         → sample b₁ (run_steps b₁ input₁ (before ++ output src s ∷ after) s₁).output (q + (output_channels before + c)) k₁

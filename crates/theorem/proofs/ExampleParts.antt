@@ -13,7 +13,7 @@ use lib.IntN.{pos}
 use lib.ListN.{length, get_or, replicate}
 use lib.Ieee.{Float, nan, fin, add, sub, mul, div, eq, of_int, of_bits}
 use Rattle.lists.specs.Entries.{some_from, has, meet}
-use Rattle.lists.proofs.Bools.{or_none, or_some}
+use Rattle.std.proofs.lemmas.Bool.{or_parts, or_cases}
 use Rattle.lists.proofs.Scans.{Counted, counted_at}
 use Rattle.node.specs.Sizes.{node_float_count, node_word_count}
 use Rattle.node.specs.Nodes.{new_node, set_node, gain_of, factor, finish_block}
@@ -144,7 +144,7 @@ module _ (m i c : ℕ) (h : m ≤ c) where
   absent_from n p [] e = tt
   absent_from n p (setting id ramp values ∷ es) e = absent_from n p es e
   absent_from n p (ran directory samples output ∷ es) e =
-      let none = or_none (some_entry_from m directory (entries directory)) (some_channel_from m es) e in
+      let none = or_parts (some_entry_from m directory (entries directory)) (some_channel_from m es) e in
       (rw (lookup_absent directory samples i c (entry_other directory none.0)) (omega arith), absent_from n p es none.1)
 
 -- ---- that the listed inputs carry equal samples
@@ -166,7 +166,7 @@ Each (i ∷ is) P = P i × Each is P
 each : (P : ℕ → Type 0) (is : List ℕ) → Each is P → (k : ℕ) → has is k ≡ true → P k
 unfolding has
 each P [] all k h = absurd (false≢true h)
-each P (i ∷ is) all k h = ⊎_elim (λ t. subst P (eqb-true i k t) all.0) (λ t. each P is all.1 k t) (or_some (eqb i k) (has is k) h)
+each P (i ∷ is) all k h = ⊎_elim (λ t. subst P (eqb-true i k t) all.0) (λ t. each P is all.1 k t) (or_cases (eqb i k) (has is k) h)
 
 -- no input is listed
 pub none_listed : (l : Lists) (s : ℕ) → list_behind l s ≡ [] → ListedCarryEqual l s

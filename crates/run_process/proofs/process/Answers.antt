@@ -23,14 +23,14 @@ returns-in_err-admission c =
       output = r.1.1.1.1;
     }
 
-pub slice_bounds-run_block-end : goal.slice_bounds-run_block-end
-slice_bounds-run_block-end c = sym (length-take-le c.args.plan.words c.args.steps.now (admitted _ _ (sym c.admission.ensures ∙ c.in_ok-admission.was)).step_words)
+pub slice_bounds-counted-end : goal.slice_bounds-counted-end
+slice_bounds-counted-end c = sym (length-take-le c.args.given.now.plan.words c.args.given.now.steps.now (admitted _ _ (sym c.admission.ensures ∙ c.in_ok-admission.was)).step_words)
 
 pub run_block-requires : goal.run_block-requires
 run_block-requires c =
     let t = admitted _ _ (sym c.admission.ensures ∙ c.in_ok-admission.was) in
     record {
-      fit = (t.fit, t.steps);
+      tested = (t.fit, t.steps);
       output_room = t.output;
       few_entries = (directory_good _ _ t.directory).few;
     }

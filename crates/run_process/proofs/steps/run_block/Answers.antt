@@ -3,7 +3,7 @@ use Rattle.run_process.proofs.steps.run_block.Goals as goal
 
 pub run_steps-requires : goal.run_steps-requires
 run_steps-requires c = record {
-  fit = c.requires.fit;
+  tested = c.requires.tested;
   ends = c.search_ends.ensures;
   output_room = c.requires.output_room;
 }

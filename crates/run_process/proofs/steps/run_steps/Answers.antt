@@ -5,7 +5,7 @@ use Rattle.run_process.proofs.Going.{going_starts, going_fits, going_on, going_b
 use Rattle.run_process.proofs.steps.run_steps.Goals as goal
 
 pub loop-i-init : goal.loop-i-init
-loop-i-init c = going_starts _ _ _ _ _ _ c.requires.fit.0 c.requires.fit.1 refl c.requires.output_room
+loop-i-init c = going_starts _ _ _ _ _ _ c.requires.tested.0 c.requires.tested.1 refl c.requires.output_room
 
 pub returns-in_default : goal.returns-in_default
 returns-in_default c = going_bad _ _ _ _ _ _ _ _ _ c.loop-i.invariant c.loop-i-test.true (sym c.read_step.ensures ∙ c.in_default.is)
@@ -14,7 +14,7 @@ pub run_step-wrote-requires : goal.run_step-wrote-requires
 run_step-wrote-requires c =
     let f = going_fits _ _ _ _ _ _ _ _ _ c.loop-i.invariant c.loop-i-test.true (sym c.read_step.ensures ∙ c.in-Some.is) in
     record {
-      fit_step = f.0;
+      tested = f.0;
       output_room = f.1;
       ends = c.requires.ends;
     }
