@@ -8,7 +8,7 @@ use Prim.Native.Nat.{ℕ, ◌≤◌}
 use native.Mathlib.Omega.{arith}
 use lib.ListN.{length}
 use Rattle.lists.specs.Entries.{has}
-use Rattle.lists.proofs.Bools.{or_none, none_or}
+use Rattle.std.proofs.lemmas.Bool.{or_parts, or_from}
 use Rattle.refusal.specs.Tests.{Test, first, outcome, NoneHolds, Answer}
 use Rattle.refusal.proofs.Laws.{outcome_accepted, outcome_refused}
 use Rattle.node.specs.Nodes.{new_node}
@@ -17,7 +17,8 @@ use Rattle.plan.specs.declared.Plan.{Plan}
 use Rattle.plan.specs.declared.Limits.{Limits}
 use Rattle.plan.specs.Check.{id_among}
 use Rattle.builder.specs.declared.Growth.{Growth}
-use Rattle.builder.specs.Growth.{Lengths, grown, limit_tests, grows_past, growth_tests, buffers_growth, coefficients_growth, node_growth, step_growth}
+use Rattle.builder.specs.declared.Lengths.{Lengths}
+use Rattle.builder.specs.Growth.{grown, limit_tests, grows_past, growth_tests, buffers_growth, coefficients_growth, node_growth, step_growth}
 use Rattle.builder.specs.Calls.{lent_indices, buffers_answer, lent_coefficients, coefficients_answer, lent_nodes, node_own, node_answer, record_length, lent_steps, step_own, step_answer}
 use Rattle.builder.specs.Built.{BuilderCall, buffers, coefficients, node, step, Asked, asked, BuilderState, answer, after, built, accepted}
 use Rattle.builder.specs.Sums.{sum, no_growth, growth_of, growth_of_all, id_of, ids_of, ids_taken, lengths, FitsAsOne, Good, AllGood}
@@ -34,7 +35,7 @@ use Rattle.std.specs.Prelude.{Ok, Err}
 module _ (l : Limits) (s : BuilderState) where
   one_taken : (id : ℕ) → (ids_taken s.words s.plan.nodes (id ∷ []) ≡ false) ↔ (id_among s.words s.plan.nodes id ≡ false)
   unfolding has
-  one_taken id = (λ e. (or_none (id_among s.words s.plan.nodes id) (false || false) e).0, λ e. none_or (id_among s.words s.plan.nodes id) _ e refl)
+  one_taken id = (λ e. (or_parts (id_among s.words s.plan.nodes id) (false || false) e).0, λ e. or_from (id_among s.words s.plan.nodes id) _ e refl)
 
   -- a call that gives no id, and is lent the areas that its growth asks for
   without_id : (g : Growth) (lent : Lengths) (own : List Test) → grows_past s.plan g lent ≡ grows_past s.plan g (lengths s)
@@ -92,12 +93,12 @@ module _ (l : Limits) (s : BuilderState) where
       let after-it = ids_stored words n x f.words ids in
       rw (plan_accepted s.plan node_growth e, words_accepted l s.plan id xs ramp safe s.floats words e) (
         λ h.
-            let u = or_none (id_among words n id) (has ids id || ids_taken words n ids) h in
-            let v = or_none (has ids id) (ids_taken words n ids) u.1 in
+            let u = or_parts (id_among words n id) (has ids id || ids_taken words n ids) h in
+            let v = or_parts (has ids id) (ids_taken words n ids) u.1 in
             ((one_taken id).1 u.0, after-it.1 (own ∙ v.0, v.1)),
         λ h.
             let v = after-it.0 h.1 in
-            none_or (id_among words n id) _ ((one_taken id).0 h.0) (none_or (has ids id) _ (sym own ∙ v.0) v.1),
+            or_from (id_among words n id) _ ((one_taken id).0 h.0) (or_from (has ids id) _ (sym own ∙ v.0) v.1),
       )
   ids_after (step w) ids e = rw (plan_accepted s.plan (step_growth (record_length w)) e) (λ h. (refl, h), λ h. h.1)
 
@@ -155,7 +156,7 @@ own_new : (words : List ℕ) (n : ℕ) (c : BuilderCall) (ids : List ℕ) → id
 unfolding has
 own_new words n (buffers m) ids e = refl
 own_new words n (coefficients xs) ids e = refl
-own_new words n (node id xs ramp safe) ids e = none_or (id_among words n id) _ (or_none (id_among words n id) (has ids id || ids_taken words n ids) e).0 refl
+own_new words n (node id xs ramp safe) ids e = or_from (id_among words n id) _ (or_parts (id_among words n id) (has ids id || ids_taken words n ids) e).0 refl
 own_new words n (step w) ids e = refl
 
 module _ (l : Limits) where

@@ -6,7 +6,7 @@ use Prim.Native.Nat.{ℕ, ◌+◌, ◌*◌, ◌<◌, ◌≤◌}
 use native.Mathlib.Decide.{dec_lt}
 use native.Mathlib.Omega.{arith}
 use borrow.Author.Tests.{ltb-false}
-use Rattle.lists.proofs.Bools.{or_none}
+use Rattle.std.proofs.lemmas.Bool.{or_parts}
 use Rattle.refusal.specs.Tests.{test}
 use Rattle.refusal.proofs.Laws.{accepted_none}
 use lib.ListN.{length}
@@ -34,7 +34,7 @@ pub buffers_fit : (l : Limits) (p : Plan) (n len : ℕ) → buffers_answer l p n
 unfolding buffers_answer
 buffers_fit l p n len e =
     let t = growth_passed l p (buffers_growth n) (lent_indices len) [] (accepted_none (buffers_tests l p n len) (Ok tt) e).0 in
-    let o = or_none _ _ (sym (buffers_over l p n len) ∙ t.0) in
+    let o = or_parts _ _ (sym (buffers_over l p n len) ∙ t.0) in
     record { buffers = ltb-false _ _ o.0; indices = ltb-false _ _ o.1; area = ltb-false _ _ (sym (buffers_past l p n len) ∙ t.1.0) }
 
 pub record CoefficientsFit (l : Limits) (p : Plan) (n len : ℕ) : Type 0 where
@@ -64,7 +64,7 @@ pub node_fits : (l : Limits) (p : Plan) (id n ramp safe floats : ℕ) (words : L
 unfolding node_answer
 node_fits l p id n ramp safe floats words e =
     let t = growth_passed l p node_growth (lent_nodes floats (length words)) (node_own p id n ramp safe words) (accepted_none (node_tests l p id n ramp safe floats words) (Ok tt) e).0 in
-    let s = or_none _ _ (sym (node_past l p n floats (length words)) ∙ t.1.0) in
+    let s = or_parts _ _ (sym (node_past l p n floats (length words)) ∙ t.1.0) in
     record {
       nodes = ltb-false _ _ (sym (node_over l p n floats) ∙ t.0);
       floats = ltb-false _ _ s.0;
@@ -86,7 +86,7 @@ unfolding finish_answer
 finish_fits l p len e =
     let n = (accepted_none (finish_tests l p len) (Ok tt) e).0 in
     let t = limits_passed l p finish_growth (test ShortArea (shorter len p.buffers p.block) ∷ []) n.1 in
-    let b = or_none _ _ n.0 in
+    let b = or_parts _ _ n.0 in
     let o : p.buffers + 0 ≤ l.buffers = ltb-false _ _ (sym (finish_over l p 0 len) ∙ t.0) in
     record { low = ltb-false _ _ b.0; high = ltb-false _ _ b.1; buffers = omega arith; area = ltb-false _ _ t.1.0 }
 

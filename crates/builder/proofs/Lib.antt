@@ -1,6 +1,6 @@
 -- Laws that belong to no one function, for the crates above too.
 
--- numbers in order, and sums that are tested without being made
+-- numbers in order
 pub mod Numbers
 -- the tests 5 and 2 of each call, without the counts that it does not use
 pub mod Uses

@@ -9,7 +9,8 @@ use Rattle.refusal.proofs.Laws.{first_yes, first_no, first_append, none_rest, no
 use Rattle.plan.specs.declared.Plan.{Plan}
 use Rattle.plan.specs.declared.Limits.{Limits}
 use Rattle.builder.specs.declared.Growth.{Growth}
-use Rattle.builder.specs.Growth.{Lengths, grows_over, limit_tests, grows_past, growth_tests}
+use Rattle.builder.specs.declared.Lengths.{Lengths}
+use Rattle.builder.specs.Growth.{grows_over, limit_tests, grows_past, growth_tests}
 use Rattle.refusal.specs.declared.Reason.TheVariants.{ShortArea}
 use Rattle.std.specs.Prelude.{Ok, Err, None}
 

@@ -1,12 +1,8 @@
--- Numbers in order, and sums that are tested without being made. Assumes nothing.
-use Prim.Native.Nat.{ℕ, zero, suc, ◌+◌, ◌-◌, ◌<◌, ◌≤◌}
+-- Numbers in order. Assumes nothing.
+use Prim.Native.Nat.{ℕ, zero, suc, ◌+◌, ◌<◌}
 use native.Mathlib.Nat.{not-suc-le-zero, le_of_suc-le-suc, add-zero, add-suc, suc-add}
-use native.Mathlib.Omega.{arith}
 use mathlib.Core.Path.{◌≡◌, refl, sym, ap, ◌∙◌}
-use mathlib.Core.Bool.{Bool, true, false}
-use lib.Dec.{ltb}
 use lib.ListN.{length, get_or}
-use borrow.Author.Tests.{ltb-true, ltb-false, lt-ltb, le-ltb}
 use Rattle.builder.specs.Calls.{numbers_from}
 
 pub length_numbers : (k n : ℕ) → length (numbers_from k n) ≡ n
@@ -17,11 +13,3 @@ pub get_d_numbers : (k n i d : ℕ) → i < n → get_or (numbers_from k n) i d 
 get_d_numbers k zero i d h = absurd (not-suc-le-zero h)
 get_d_numbers k (suc n) zero d h = sym (add-zero k)
 get_d_numbers k (suc n) (suc i) d h = get_d_numbers (suc k) n i d (le_of_suc-le-suc h) ∙ suc-add k i ∙ sym (add-suc k i)
-
--- count + n is above a limit that count is not above
-pub less_sum : (limit count n : ℕ) → count ≤ limit → ltb (limit - count) n ≡ ltb limit (count + n)
-less_sum limit count n h = go (ltb (limit - count) n) refl
-  where
-    go : (b : Bool) → ltb (limit - count) n ≡ b → ltb (limit - count) n ≡ ltb limit (count + n)
-    go true e = e ∙ sym (lt-ltb limit (count + n) (omega (arith, ltb-true (limit - count) n e)))
-    go false e = e ∙ sym (le-ltb limit (count + n) (omega (arith, ltb-false (limit - count) n e)))

@@ -1,4 +1,4 @@
--- What each call leaves, from what its function promises of the plan and of each area, as one state. Assumes nothing.
+-- What a call leaves that an insert makes, from what its function promises of the plan and of each area, as one state. Assumes nothing.
 use mathlib.Core.Path.{◌≡◌}
 use mathlib.Core.List.{List}
 use Prim.Native.Nat.{ℕ}
@@ -6,9 +6,9 @@ use lib.ListN.{length}
 use lib.Ieee.{Float}
 use Rattle.plan.specs.declared.Plan.{Plan}
 use Rattle.plan.specs.declared.Limits.{Limits}
-use Rattle.builder.specs.Growth.{buffers_growth, coefficients_growth, node_growth, step_growth}
-use Rattle.builder.specs.Calls.{plan_after, buffers_answer, buffers_indices, coefficients_answer, coefficients_area, node_answer, node_floats_area, node_words_area, record_length, step_answer, step_area}
-use Rattle.builder.specs.Built.{buffers, coefficients, node, step, builder_state, after}
+use Rattle.builder.specs.Growth.{buffers_growth, node_growth, step_growth}
+use Rattle.builder.specs.Calls.{plan_after, buffers_answer, buffers_indices, node_answer, node_floats_area, node_words_area, record_length, step_answer, step_area}
+use Rattle.builder.specs.Built.{buffers, node, step, builder_state, after}
 
 module _ (l : Limits) (p : Plan) (ix : List ℕ) (co fl : List Float) (wo st : List ℕ) {q : Plan} where
   pub buffers_state : (n : ℕ) {ix' : List ℕ}
@@ -16,12 +16,6 @@ module _ (l : Limits) (p : Plan) (ix : List ℕ) (co fl : List Float) (wo st : L
       → ix' ≡ buffers_indices l p n ix
       → builder_state q ix' co fl wo st ≡ after l (builder_state p ix co fl wo st) (buffers n)
   buffers_state n a b = λ i. builder_state (a i) (b i) co fl wo st
-
-  pub coefficients_state : (xs : List Float) {co' : List Float}
-      → q ≡ plan_after (coefficients_answer l p (length xs) (length co)) p (coefficients_growth (length xs))
-      → co' ≡ coefficients_area l p xs co
-      → builder_state q ix co' fl wo st ≡ after l (builder_state p ix co fl wo st) (coefficients xs)
-  coefficients_state xs a b = λ i. builder_state (a i) ix (b i) fl wo st
 
   pub node_state : (id : ℕ) (xs : List Float) (ramp safe : ℕ) {fl' : List Float} {wo' : List ℕ}
       → q ≡ plan_after (node_answer l p id (length xs) ramp safe (length fl) wo) p node_growth

@@ -12,7 +12,7 @@ use lib.Dec.{ltb, eqb}
 use lib.ListN.{length}
 use borrow.Author.Tests.{ltb-false, le-ltb, eqb-false, ne_eqb}
 use Rattle.lists.specs.Entries.{has}
-use Rattle.lists.proofs.Bools.{or_none, none_or}
+use Rattle.std.proofs.lemmas.Bool.{or_parts, or_from}
 use Rattle.refusal.specs.Tests.{NoneHolds}
 use Rattle.node.specs.declared.Node.{Node}
 use Rattle.node.specs.Sizes.{node_float_count, node_word_count}
@@ -25,7 +25,8 @@ use Rattle.plan.specs.Areas.{shorter}
 use Rattle.plan.specs.Check.{id_among}
 use Rattle.plan.proofs.Plans.{among_none}
 use Rattle.builder.specs.declared.Growth.{Growth}
-use Rattle.builder.specs.Growth.{Lengths, count_after, grown, tested, grows_over, limit_tests, too_short, grows_past}
+use Rattle.builder.specs.declared.Lengths.{Lengths}
+use Rattle.builder.specs.Growth.{count_after, grown, tested, grows_over, limit_tests, too_short, grows_past}
 use Rattle.builder.specs.Sums.{plus, sum, ids_taken}
 use Rattle.std.specs.Prelude.{Some, None, Option}
 
@@ -76,14 +77,14 @@ infixl 5 ◌or◌
 ◌or◌ : {x₁ x₂ y₁ y₂ z₁ z₂ : Bool} → Splits x₁ y₁ z₁ → Splits x₂ y₂ z₂ → Splits (x₁ || x₂) (y₁ || y₂) (z₁ || z₂)
 ◌or◌ s t = (
   λ e.
-      let x = or_none _ _ e in
+      let x = or_parts _ _ e in
       let a = s.0 x.0 in
       let b = t.0 x.1 in
-      (none_or _ _ a.0 b.0, none_or _ _ a.1 b.1),
+      (or_from _ _ a.0 b.0, or_from _ _ a.1 b.1),
   λ h.
-      let y = or_none _ _ h.0 in
-      let z = or_none _ _ h.1 in
-      none_or _ _ (s.1 (y.0, z.0)) (t.1 (y.1, z.1)),
+      let y = or_parts _ _ h.0 in
+      let z = or_parts _ _ h.1 in
+      or_from _ _ (s.1 (y.0, z.0)) (t.1 (y.1, z.1)),
 )
 
 module _ (p : Plan) (g h : Growth) where
@@ -142,14 +143,14 @@ module _ (words : List ℕ) (n : ℕ) (x : Node) (room : (n + 1) * node_word_cou
   ids_stored [] = (λ e. (refl, refl), λ h. refl)
   ids_stored (j ∷ js) = (
     λ e.
-        let u = or_none (id_among stored (n + 1) j) (has js j || ids_taken stored (n + 1) js) e in
-        let v = or_none (has js j) (ids_taken stored (n + 1) js) u.1 in
+        let u = or_parts (id_among stored (n + 1) j) (has js j || ids_taken stored (n + 1) js) e in
+        let v = or_parts (has js j) (ids_taken stored (n + 1) js) u.1 in
         let a = (among_stored j).0 u.0 in
         let b = (ids_stored js).0 v.1 in
-        (none_or (eqb j x.id) _ (ne_eqb j x.id a.0) b.0, none_or (id_among words n j) _ a.1 (none_or (has js j) _ v.0 b.1)),
+        (or_from (eqb j x.id) _ (ne_eqb j x.id a.0) b.0, or_from (id_among words n j) _ a.1 (or_from (has js j) _ v.0 b.1)),
     λ h.
-        let u = or_none (eqb j x.id) (has js x.id) h.0 in
-        let v = or_none (id_among words n j) (has js j || ids_taken words n js) h.1 in
-        let w = or_none (has js j) (ids_taken words n js) v.1 in
-        none_or (id_among stored (n + 1) j) _ ((among_stored j).1 (eqb-false j x.id u.0, v.0)) (none_or (has js j) _ w.0 ((ids_stored js).1 (u.1, w.1))),
+        let u = or_parts (eqb j x.id) (has js x.id) h.0 in
+        let v = or_parts (id_among words n j) (has js j || ids_taken words n js) h.1 in
+        let w = or_parts (has js j) (ids_taken words n js) v.1 in
+        or_from (id_among stored (n + 1) j) _ ((among_stored j).1 (eqb-false j x.id u.0, v.0)) (or_from (has js j) _ w.0 ((ids_stored js).1 (u.1, w.1))),
   )

@@ -12,7 +12,7 @@ use lib.Dec.{leb}
 use lib.Ieee.{Float}
 use borrow.Author.Tests.{ltb-true, ltb-false}
 use Rattle.lists.specs.Entries.{some_from}
-use Rattle.lists.proofs.Bools.{none_or, or_none}
+use Rattle.std.proofs.lemmas.Bool.{or_from, or_parts}
 use Rattle.lists.proofs.Entries.{some_none, some_more, entries_none}
 use Rattle.lists.proofs.Stores.{take_stored}
 use Rattle.refusal.specs.Tests.{test, first, Answer}
@@ -59,8 +59,8 @@ some_append : (n : ℕ) (xs ys : List ℕ) → some_from n xs ≡ false → some
 unfolding some_from
 some_append n [] ys e f = f
 some_append n (x ∷ xs) ys e f =
-    let u = or_none (leb n x) (some_from n xs) e in
-    none_or (leb n x) (some_from n (xs ++ ys)) u.0 (some_append n xs ys u.1 f)
+    let u = or_parts (leb n x) (some_from n xs) e in
+    or_from (leb n x) (some_from n (xs ++ ys)) u.0 (some_append n xs ys u.1 f)
 
 numbers_below : (k n : ℕ) → some_from (k + n) (numbers_from k n) ≡ false
 numbers_below k n =

@@ -14,7 +14,8 @@ use Rattle.plan.specs.Limits.{bad_block}
 use Rattle.plan.specs.Words.{fields, span, read_at}
 use Rattle.plan.specs.Areas.{shorter}
 use Rattle.plan.specs.Check.{id_among, too_wide}
-use Rattle.builder.specs.Growth.{Lengths, grown, limit_tests, growth_tests, buffers_growth, coefficients_growth, node_growth, step_growth, finish_growth}
+use Rattle.builder.specs.declared.Lengths.{Lengths}
+use Rattle.builder.specs.Growth.{grown, limit_tests, growth_tests, buffers_growth, coefficients_growth, node_growth, step_growth, finish_growth}
 use Rattle.builder.specs.declared.Growth.{Growth}
 use Rattle.refusal.specs.declared.Reason.TheVariants.{BadNode, BlockLength, IdTaken, LongRamp, ShortArea, TooManyValues, UnreadableStep}
 use Rattle.refusal.specs.declared.Refusal.{Refusal}

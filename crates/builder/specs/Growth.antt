@@ -7,6 +7,7 @@ use Rattle.plan.specs.PlanRecord.{plan_with}
 use Rattle.plan.specs.declared.Limits.{Limits}
 use Rattle.plan.specs.Areas.{shorter}
 use Rattle.builder.specs.declared.Growth.{Growth}
+use Rattle.builder.specs.declared.Lengths.{Lengths}
 use Rattle.refusal.specs.declared.Reason.TheVariants.{OverLimit, ShortArea}
 
 -- a count after the call
@@ -43,18 +44,6 @@ limit_tests l p g = test OverLimit (grows_over l p g) ∷ []
 
 -- ---- number 2: an area shorter than the call needs. A call is lent the areas of the counts that it adds to, but for the buffers, which
 -- `finish` is lent.
-
--- how many places each lent area has
-pub record Lengths : Type 0 where
-  pub indices : ℕ
-  pub coefficients : ℕ
-  pub node_floats : ℕ
-  pub node_words : ℕ
-  pub step_words : ℕ
-
-abbrev pub lengths_of : (indices coefficients floats words steps : ℕ) → Lengths
-lengths_of indices coefficients floats words steps =
-    record { indices = indices; coefficients = coefficients; node_floats = floats; node_words = words; step_words = steps }
 
 abbrev pub too_short : ℕ → ℕ → Option ℕ → ℕ → Bool
 too_short length count change each = tested (λ k. shorter length k each) count change

@@ -6,7 +6,8 @@ use Rattle.node.specs.Sizes.{ramp_too_long, safe_too_high}
 use Rattle.plan.specs.declared.Limits.{Limits}
 use Rattle.plan.specs.Check.{id_among}
 use Rattle.builder.specs.declared.Growth.{Growth}
-use Rattle.builder.specs.Growth.{Lengths, limit_tests, grows_past, buffers_growth, coefficients_growth, node_growth, step_growth}
+use Rattle.builder.specs.declared.Lengths.{Lengths}
+use Rattle.builder.specs.Growth.{limit_tests, grows_past, buffers_growth, coefficients_growth, node_growth, step_growth}
 use Rattle.builder.specs.Calls.{too_many, record_length, step_own}
 use Rattle.builder.specs.Built.{BuilderCall, buffers, coefficients, node, step, BuilderState}
 

@@ -24,3 +24,24 @@ impl Growth {
         words: None,
     };
 }
+
+// How many places each area has that a call is lent.
+#[derive(Clone, Copy, Debug, PartialEq, Eq)]
+pub struct Lengths {
+    pub indices: usize,
+    pub coefficients: usize,
+    pub node_floats: usize,
+    pub node_words: usize,
+    pub step_words: usize,
+}
+
+impl Lengths {
+    // Of a call that is lent no area.
+    pub const NONE: Lengths = Lengths {
+        indices: 0,
+        coefficients: 0,
+        node_floats: 0,
+        node_words: 0,
+        step_words: 0,
+    };
+}

@@ -8,9 +8,10 @@ ghost use Rattle.std.specs.Prelude.{◌≡◌, ◌+◌, ◌≤◌};
 ghost use Rattle.plan.specs.Words.{max_fields};
 ghost use Rattle.builder.specs.Calls.{new_answer, buffers_answer, coefficients_answer, node_answer, record_length, step_answer, finish_answer};
 
+use builder::Lengths;
 use limits::{
-    buffers_growth, coefficients_growth, finish_growth, limits_answer, node_growth, past,
-    step_growth,
+    buffers_growth, coefficients_growth, finish_growth, growth_answer, limits_answer, node_growth,
+    past, step_growth,
 };
 use node::Node;
 use plan::{Limits, Plan};
@@ -26,29 +27,30 @@ pub fn new_answer(block: usize) -> Answer
     Ok(())
 }
 
-#[tactic(auto, using(builder::proofs::Uses::buffers_past), unfolding(builder::specs::Calls::buffers_answer))]
+// A length here is that of a lent area whose entries are not read: hence it comes without the area. What this call and the next ask in common is `growth_answer`.
+#[tactic(auto, unfolding(builder::specs::Calls::buffers_answer))]
 pub fn buffers_answer(limits: Limits, plan: Plan, n: usize, len: usize) -> Answer
     ensures { result ≡ buffers_answer limits plan n len }
 {
-    limits_answer(limits, plan, buffers_growth(n))?;
-    if past(len, plan.indices, n) {
-        return Err(Reason::ShortArea.into());
-    }
-    Ok(())
+    let lent = Lengths {
+        indices: len,
+        ..Lengths::NONE
+    };
+    growth_answer(limits, plan, buffers_growth(n), lent)
 }
 
-#[tactic(auto, using(builder::proofs::Uses::coefficients_past), unfolding(builder::specs::Calls::coefficients_answer))]
+#[tactic(auto, unfolding(builder::specs::Calls::coefficients_answer))]
 pub fn coefficients_answer(limits: Limits, plan: Plan, n: usize, len: usize) -> Answer
     ensures { result ≡ coefficients_answer limits plan n len }
 {
-    limits_answer(limits, plan, coefficients_growth(n))?;
-    if past(len, plan.coefficients, n) {
-        return Err(Reason::ShortArea.into());
-    }
-    Ok(())
+    let lent = Lengths {
+        coefficients: len,
+        ..Lengths::NONE
+    };
+    growth_answer(limits, plan, coefficients_growth(n), lent)
 }
 
-// A node of n values, with an area of `floats` floats.
+// A node of n values, with an area of `floats` floats. The parameters are those of the call that it answers for.
 #[tactic(auto, using(builder::proofs::Uses::node_past), unfolding(builder::specs::Calls::node_answer))]
 pub fn node_answer(
     limits: Limits,

@@ -1,9 +1,9 @@
-// What each builder call adds to the counts of a plan, and the tests of a growth: the limits and, of a call that is lent all five areas, their lengths.
-ghost use Rattle.std.specs.Prelude.{◌≡◌, ◌≤◌, Ok, Some};
+// What each builder call adds to the counts of a plan, and the tests of a growth: the limits and the lengths of the areas that it is lent.
+ghost use Rattle.std.specs.Prelude.{◌≡◌, ◌≤◌, [], Ok, Some};
 ghost use Rattle.refusal.specs.Tests.{first};
-ghost use Rattle.builder.specs.Growth.{over, grows_over, limit_tests, lengths_of, too_short, grows_past, buffers_growth, coefficients_growth, node_growth, step_growth, finish_growth};
+ghost use Rattle.builder.specs.Growth.{over, grows_over, limit_tests, too_short, grows_past, growth_tests, buffers_growth, coefficients_growth, node_growth, step_growth, finish_growth};
 
-use builder::Growth;
+use builder::{Growth, Lengths};
 use node::Node;
 use plan::{Limits, Plan};
 use refusal::{Answer, Reason};
@@ -50,25 +50,29 @@ fn too_short(len: usize, count: usize, change: Option<usize>, each: usize) -> bo
     change.is_some_and(|n| past(len / each, count, n))
 }
 
-// Number 2 of a call that is lent five areas of these lengths.
-pub fn grows_past(
-    plan: Plan,
-    growth: Growth,
-    indices: usize,
-    coefficients: usize,
-    floats: usize,
-    words: usize,
-    steps: usize,
-) -> bool
-    ensures { result ≡ grows_past plan growth (lengths_of indices coefficients floats words steps) }
+// Number 2, with areas of these lengths; one that a call adds nothing to is of no matter.
+pub fn grows_past(plan: Plan, growth: Growth, lent: Lengths) -> bool
+    ensures { result ≡ grows_past plan growth lent }
 {
-    too_short(indices, plan.indices, growth.indices, 1)
-        | too_short(coefficients, plan.coefficients, growth.coefficients, 1)
-        | too_short(floats, plan.nodes, growth.nodes, Node::FLOATS)
-        | too_short(words, plan.nodes, growth.nodes, Node::WORDS)
-        | too_short(steps, plan.words, growth.words, 1)
+    too_short(lent.indices, plan.indices, growth.indices, 1)
+        | too_short(lent.coefficients, plan.coefficients, growth.coefficients, 1)
+        | too_short(lent.node_floats, plan.nodes, growth.nodes, Node::FLOATS)
+        | too_short(lent.node_words, plan.nodes, growth.nodes, Node::WORDS)
+        | too_short(lent.step_words, plan.words, growth.words, 1)
 }
 
+// Numbers 5 and 2 of a growth, with areas of these lengths.
+pub fn growth_answer(limits: Limits, plan: Plan, growth: Growth, lent: Lengths) -> Answer
+    ensures { result ≡ first (growth_tests limits plan growth lent []) (Ok tt) }
+{
+    limits_answer(limits, plan, growth)?;
+    if grows_past(plan, growth, lent) {
+        return Err(Reason::ShortArea.into());
+    }
+    Ok(())
+}
+
+// Here and below a function for each call, since each is a definition of its own.
 pub fn buffers_growth(n: usize) -> Growth
     ensures { result ≡ buffers_growth n }
 {

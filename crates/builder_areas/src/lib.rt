@@ -2,11 +2,13 @@
 // All of it is for the crates above and not the interface: a function that has a `requires` says in its comment what it takes.
 #![tactic(auto)]
 
-ghost use Rattle.std.specs.Prelude.{◌≡◌, ◌+◌, ◌≤◌, length, take, replicate};
+ghost use Rattle.std.specs.Prelude.{◌≡◌, ◌+◌, ◌≤◌, length, replicate};
 ghost use Rattle.std.proofs.lemmas.List.Edits.{sets};
 ghost use Rattle.node.specs.Nodes.{silence};
 ghost use Rattle.plan.specs.Limits.{unit_limits};
 ghost use Rattle.builder.specs.Calls.{numbers_from};
+
+// A count here is of what is written to an area that goes on behind it: hence it stands beside the area.
 
 // n numbers from `from` on, stored from place `at` on. Requires numbers of buffers, and room for them.
 pub fn put_numbers(from: usize, n: usize, at: usize, indices: &mut [u32])
@@ -16,14 +18,6 @@ pub fn put_numbers(from: usize, n: usize, at: usize, indices: &mut [u32])
     for (i, place) in indices[at..at + n].iter_mut().enumerate() {
         *place = (from + i) as u32;
     }
-}
-
-// The first n words, stored from place `at` on. Requires as many, and room for them.
-pub fn put_words(words: &[u32], n: usize, at: usize, area: &mut [u32])
-    requires { (n ≤ length words.now) × (at + n ≤ length area.old) }
-    ensures { area.new ≡ sets area.old at (take n words.now) }
-{
-    area[at..at + n].copy_from_slice(&words[..n]);
 }
 
 // Zeros in the first n places. Requires as many.

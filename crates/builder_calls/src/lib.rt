@@ -2,18 +2,19 @@
 // docs/DECISIONS.md, point 2, lists, and a refused one changes nothing.
 #![tactic(auto)]
 
+pub mod areas;
+
 ghost use Rattle.std.specs.Prelude.{◌≡◌, length};
 ghost use Rattle.plan.specs.Limits.{unit_limits};
 ghost use Rattle.builder.specs.Growth.{buffers_growth, coefficients_growth, node_growth, step_growth};
 ghost use Rattle.builder.specs.Calls.{plan_after, empty_plan, buffers_answer, buffers_indices, buffers_span, first_buffers, buffer_number, coefficients_answer, coefficients_area, coefficients_span, node_answer, node_floats_area, node_words_area, node_number, record_length, step_answer, step_area, finish_answer, finish_area};
 ghost use Rattle.builder_calls.specs.New.{new_builder};
 
-use lists::{put_floats, smaller};
 use node::Node;
 use plan::{Limits, Plan, Span};
 use refusal::{Answer, Reason, Refusal};
 
-// The record that the calls build.
+// The record that the calls build. Each call is lent the areas that it needs, as the C interface lends them; `PlanAreas` has all five.
 #[derive(Clone, Copy)]
 pub struct PlanBuilder {
     pub plan: Plan,
@@ -44,7 +45,7 @@ impl PlanBuilder {
         Ok(PlanBuilder::empty(block))
     }
 
-    // n new buffers: fresh numbers, and index entries that name them.
+    // n new buffers, however long the area is: fresh numbers, and index entries that name them.
     #[tactic(auto, using(builder::proofs::Fits::buffers_fit), unfolding(builder::specs::Calls::buffers_span, builder::specs::Calls::buffers_indices))]
     pub fn buffers(&mut self, n: usize, indices: &mut [u32]) -> Result<Span, Refusal>
         ensures answer { result ≡ buffers_span unit_limits self.old.plan n (length indices.old) }
@@ -82,7 +83,7 @@ impl PlanBuilder {
         ensures { result ≡ buffer_number self.plan span i indices.now }
     {
         let start = span.start as usize;
-        let end = smaller(self.plan.indices, indices.len());
+        let end = self.plan.indices.min(indices.len());
         if end <= start {
             return Err(Reason::ShortArea.into());
         }
@@ -101,7 +102,7 @@ impl PlanBuilder {
     {
         builder_answers::coefficients_answer(Limits::UNIT, self.plan, values.len(), area.len())?;
         let at = self.plan.coefficients;
-        put_floats(values, at, area);
+        lists::put(values, at, area);
         self.plan.coefficients = at + values.len();
         Ok(Span {
             start: at as u32,
@@ -110,6 +111,7 @@ impl PlanBuilder {
     }
 
     // A node at zero, set to the values over the ramp: with one above 0 it fades in. With a safe of 1 no adoption touches it.
+    // The parameters of the Rust's `node`, and the two areas that `mixer_node` is lent: no two of them go together in another call.
     #[tactic(auto, using(builder::proofs::Fits::node_fits), unfolding(builder::specs::Calls::node_number, builder::specs::Calls::node_floats_area, builder::specs::Calls::node_words_area))]
     pub fn node(
         &mut self,
@@ -151,7 +153,7 @@ impl PlanBuilder {
         builder_answers::step_answer(Limits::UNIT, self.plan, record, steps.len())?;
         let n = builder_answers::record_length(record);
         let at = self.plan.words;
-        builder_areas::put_words(record, n, at, steps);
+        lists::put(&record[..n], at, steps);
         self.plan.steps += 1;
         self.plan.words = at + n;
         Ok(())

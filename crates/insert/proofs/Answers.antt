@@ -11,7 +11,8 @@ use Rattle.plan.specs.declared.Plan.{Plan}
 use Rattle.plan.specs.declared.Limits.{Limits}
 use Rattle.plan.specs.Check.{past}
 use Rattle.builder.specs.declared.Growth.{Growth}
-use Rattle.builder.specs.Growth.{Lengths, limit_tests, grows_past, growth_tests}
+use Rattle.builder.specs.declared.Lengths.{Lengths}
+use Rattle.builder.specs.Growth.{limit_tests, grows_past, growth_tests}
 use Rattle.builder.specs.Sums.{ids_taken}
 use Rattle.builder.proofs.Limits.{growth_refused, growth_short, growth_own}
 use Rattle.insert.specs.declared.InsertPoint.{InsertPoint}

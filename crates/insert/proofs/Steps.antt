@@ -3,12 +3,12 @@
 use mathlib.Core.Path.{◌≡◌, refl, sym, ap, ◌∙◌}
 use mathlib.Core.Bool.{Bool, true, false, cond}
 use mathlib.Core.List.{List, [], ◌∷◌, ◌++◌}
-use Prim.Native.Nat.{ℕ, zero, suc, ◌+◌, ◌-◌, ◌*◌, ◌≤◌, ◌<◌, min}
+use Prim.Native.Nat.{ℕ, zero, suc, ◌+◌, ◌-◌, ◌*◌, ◌≤◌, ◌<◌}
 use native.Mathlib.Nat.{add-zero, mul-pos}
 use native.Mathlib.Omega.{arith}
 use lib.Count.{ones, ones_in}
 use lib.Dec.{leb, ltb}
-use lib.ListN.{length, get_or, length-take, length-drop}
+use lib.ListN.{length, get_or}
 use borrow.Author.Tests.{ltb-true, ltb-false, leb-true, leb-false, le-leb, lt-leb}
 use Rattle.lists.specs.Entries.{Disjoint}
 use Rattle.refusal.specs.Tests.{refusal, test_at, first, Answer}
@@ -22,7 +22,7 @@ use Rattle.plan.specs.Words.{span, step_of, step_among, read_at}
 use Rattle.plan.specs.Check.{named, outside, used, first_of}
 use Rattle.plan.specs.Sound.{Inside, Narrow, Apart}
 use Rattle.plan.proofs.Steps.{outside_none, wide_none, shares_none}
-use Rattle.plan.proofs.Spans.{named_at}
+use Rattle.plan.proofs.Spans.{named_at, within_len}
 use Rattle.plan.proofs.Parts.{tests_of}
 use Rattle.builder.specs.Built.{BuilderCall}
 use Rattle.builder.proofs.Given.{steps_given}
@@ -110,11 +110,6 @@ module _ (p q : Plan) (new : List ℕ) where
 
   module _ {m : ℕ} (f : Fresh m) where
     -- ---- the buffers of an old span and of a fresh one, and of two fresh ones
-    within_len : (s : Span) (i : ℕ) → i < length (named new s) → i < s.len
-    within_len s i l =
-        let k : i < min s.len (length new - s.start) = rw (length-take, length-drop) at l in
-        omega arith
-
     fresh_at : (a len j : ℕ) → a + len ≤ m → j < len → get_or (named new (span (p.indices + a) len)) j 0 ≡ p.buffers + (a + j)
     fresh_at a len j h l =
         let e : p.indices + a + j ≡ p.indices + (a + j) = omega arith in
@@ -122,14 +117,14 @@ module _ (p q : Plan) (new : List ℕ) where
 
     apart_stale : (s : Span) (a len : ℕ) → s.start + s.len ≤ p.indices → a + len ≤ m → Disjoint (named new s) (named new (span (p.indices + a) len))
     apart_stale s a len h k i j hi hj e =
-        let li = within_len s i hi in
-        let lj = within_len (span (p.indices + a) len) j hj in
+        let li = within_len new s i hi in
+        let lj = within_len new (span (p.indices + a) len) j hj in
         omega (arith, f.stale (s.start + i) (omega arith), named_at new s i li, e, fresh_at a len j k lj)
 
     apart_fresh : (a la b lb : ℕ) → b + lb ≤ m → a + la ≤ b → Disjoint (named new (span (p.indices + a) la)) (named new (span (p.indices + b) lb))
     apart_fresh a la b lb k h i j hi hj e =
-        let li = within_len (span (p.indices + a) la) i hi in
-        let lj = within_len (span (p.indices + b) lb) j hj in
+        let li = within_len new (span (p.indices + a) la) i hi in
+        let lj = within_len new (span (p.indices + b) lb) j hj in
         omega (arith, fresh_at a la i (omega arith) li, fresh_at b lb j k lj, e)
 
     -- ---- a Gain of few channels into fresh buffers: from an old span, and from fresh buffers before them

@@ -8,7 +8,8 @@ use Rattle.plan.specs.declared.Limits.{Limits}
 use Rattle.plan.specs.declared.Span.{Span}
 use Rattle.plan.specs.Check.{past}
 use Rattle.builder.specs.declared.Growth.{Growth}
-use Rattle.builder.specs.Growth.{Lengths, growth_tests}
+use Rattle.builder.specs.declared.Lengths.{Lengths}
+use Rattle.builder.specs.Growth.{growth_tests}
 use Rattle.builder.specs.Built.{asked, BuilderState, built}
 use Rattle.builder.specs.Sums.{ids_taken, lengths}
 use Rattle.insert.specs.declared.InsertIds.{InsertIds}

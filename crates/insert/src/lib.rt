@@ -16,6 +16,8 @@ pub struct InsertIds {
     pub wetin: u32,
 }
 
+// The two flags below are fields of the C interface (include/mixer.h), which has no Option.
+
 // What comes back to an insert: an input and its first channel, both counted from 1, at a linear gain. At bypass the dry signal is heard in its place.
 #[repr(C)]
 #[derive(Clone, Copy)]

@@ -4,16 +4,17 @@
 
 ghost use Rattle.std.specs.Prelude.{◌≡◌, ◌*◌, ◌≤◌, length};
 ghost use Rattle.node.specs.Sizes.{node_word_count};
-ghost use Rattle.builder.specs.Growth.{lengths_of};
-ghost use Rattle.builder.specs.Sums.{ids_taken};
+ghost use Rattle.builder.specs.Sums.{ids_taken, lengths};
+ghost use Rattle.builder_calls.specs.Lent.{state_of};
 ghost use Rattle.insert.specs.Insert.{insert_growth, insert_ids, return_bad, insert_answer};
 
 use builder::Growth;
 use builder_answers::limits::{grows_past, limits_answer};
+use builder_calls::areas::PlanAreas;
 use format::Format;
 use insert::{InsertIds, InsertPoint, InsertReturn};
 use node::Node;
-use plan::{Limits, Plan};
+use plan::Limits;
 use plan_steps::span_past;
 use refusal::{Answer, Reason};
 
@@ -54,6 +55,8 @@ fn return_bad(n: usize, back: InsertReturn) -> bool
     (back.input == 0) | (back.channel == 0) | (last > MAX_CHANNEL)
 }
 
+// n, here and below, is how many nodes the plan has: their words may go on behind them.
+
 // Number 8 of a list of ids. Requires the words of all n nodes.
 #[tactic(auto, using(crate::proofs::Ids::taken_turn))]
 fn ids_taken(words: &[u32], n: usize, ids: &[u32]) -> bool
@@ -84,19 +87,10 @@ fn insert_ids_taken(words: &[u32], n: usize, returns: bool, ids: InsertIds) -> b
     ids_taken(words, n, &one[..])
 }
 
-// The answer to an insert: 16; with a return 18; 4; then, of the whole, 5, 2, 8, 10. It is handed the lengths of the areas, and lent the node words, which it reads.
+// The answer to an insert: 16; with a return 18; 4; then, of the whole, 5, 2, 8, 10.
 #[tactic(auto, using(format::proofs::Labels::channels_le, format::proofs::Labels::channels_least), unfolding(insert::specs::Insert::insert_answer))]
-pub fn insert_answer(
-    limits: Limits,
-    plan: Plan,
-    insert: InsertPoint,
-    indices: usize,
-    coefficients: usize,
-    floats: usize,
-    words: &[u32],
-    steps: usize,
-) -> Answer
-    ensures { result ≡ insert_answer limits plan insert (lengths_of indices coefficients floats (length words.now) steps) words.now }
+pub fn insert_answer(limits: Limits, areas: &PlanAreas<'_>, insert: InsertPoint) -> Answer
+    ensures { result ≡ insert_answer limits areas.now.builder.plan insert (lengths (state_of areas.now)) areas.now.words.now }
 {
     if Format::COUNT <= insert.format {
         return Err(Reason::NoFormat.into());
@@ -106,23 +100,16 @@ pub fn insert_answer(
     if returns & return_bad(n, insert.back) {
         return Err(Reason::BadReturn.into());
     }
+    let plan = areas.builder.plan;
     if span_past(plan.indices, insert.src) {
         return Err(Reason::OutsideTable.into());
     }
     let growth = insert_growth(returns, n);
     limits_answer(limits, plan, growth)?;
-    if grows_past(
-        plan,
-        growth,
-        indices,
-        coefficients,
-        floats,
-        words.len(),
-        steps,
-    ) {
+    if grows_past(plan, growth, areas.lengths()) {
         return Err(Reason::ShortArea.into());
     }
-    if insert_ids_taken(words, plan.nodes, returns, insert.ids) {
+    if insert_ids_taken(areas.words, plan.nodes, returns, insert.ids) {
         return Err(Reason::IdTaken.into());
     }
     if insert.ramp > Node::MAX_RAMP {

@@ -6,15 +6,16 @@ use Prim.Native.Nat.{ℕ, zero, suc, ◌+◌, ◌-◌, ◌*◌, ◌≤◌}
 use native.Mathlib.Omega.{arith}
 use lib.Dec.{eqb, ltb}
 use borrow.Author.Tests.{ltb-false, eqb-false}
-use Rattle.lists.proofs.Bools.{or_none}
+use Rattle.std.proofs.lemmas.Bool.{or_parts}
 use Rattle.refusal.specs.declared.Refusal.{Refusal}
-use Rattle.refusal.proofs.Laws.{accepted_none, outcome_accepted, outcome_refused}
+use Rattle.refusal.proofs.Laws.{accepted_none, outcome_accepted}
 use Rattle.format.specs.Formats.{channels}
 use Rattle.plan.specs.declared.Plan.{Plan}
 use Rattle.plan.specs.declared.Span.{Span}
 use Rattle.plan.specs.Limits.{unit_limits}
 use Rattle.builder.specs.declared.Growth.{Growth}
-use Rattle.builder.specs.Growth.{Lengths, over, grows_over}
+use Rattle.builder.specs.declared.Lengths.{Lengths}
+use Rattle.builder.specs.Growth.{over, grows_over}
 use Rattle.builder.specs.Built.{asked, BuilderState, built}
 use Rattle.insert.specs.declared.InsertPoint.{InsertPoint}
 use Rattle.insert.specs.Wiring.{out, sent_calls, return_calls, insert_calls, handed_on}
@@ -37,21 +38,15 @@ fit p g e =
     let indices = over unit_limits.indices p.indices g.indices in
     let weights = over unit_limits.coefficients p.coefficients g.coefficients in
     let nodes = over unit_limits.nodes p.nodes g.nodes in
-    let d = or_none (buffers || indices || weights || nodes) (over unit_limits.steps p.steps g.steps) e in
-    let c = or_none (buffers || indices || weights) nodes d.0 in
-    let b = or_none (buffers || indices) weights c.0 in
-    let a = or_none buffers indices b.0 in
+    let d = or_parts (buffers || indices || weights || nodes) (over unit_limits.steps p.steps g.steps) e in
+    let c = or_parts (buffers || indices || weights) nodes d.0 in
+    let b = or_parts (buffers || indices) weights c.0 in
+    let a = or_parts buffers indices b.0 in
     record { buffers = a.0; indices = a.1; coefficients = b.1; nodes = c.1 }
 
 module _ (s : BuilderState) (i : InsertPoint) where
   abbrev n : ℕ
   n = channels i.format
-
-  pub refused_out : (r : Refusal) → answer_to unit_limits s i ≡ Err r → (Err r ≡ insert_span unit_limits s i) × (s ≡ inserted unit_limits s i)
-  refused_out r e = (
-    sym (outcome_refused (answer_to unit_limits s i) (Ok (handed_on s.plan i)) Err r e),
-    sym (outcome_refused (answer_to unit_limits s i) (built s (map (asked unit_limits) (insert_calls s.plan i))) (λ _. s) r e),
-  )
 
   module _ (e : answer_to unit_limits s i ≡ Ok tt) where
     -- by the flag
@@ -107,8 +102,8 @@ module _ (p : Plan) (i : InsertPoint) (lent : Lengths) (words : List ℕ) (e : i
   return_fits h =
       let f : Fit p (return_growth width) = subst (λ (b : Bool). Fit p (insert_growth b width)) h fits in
       let none = eqb i.back.input 0 || eqb i.back.channel 0 in
-      let r = or_none none (ltb max_channel (i.back.channel + width - 1)) (ap (λ (b : Bool). b && return_bad width i.back) (sym h) ∙ eighteen) in
-      let z = or_none (eqb i.back.input 0) (eqb i.back.channel 0) r.0 in
+      let r = or_parts none (ltb max_channel (i.back.channel + width - 1)) (ap (λ (b : Bool). b && return_bad width i.back) (sym h) ∙ eighteen) in
+      let z = or_parts (eqb i.back.input 0) (eqb i.back.channel 0) r.0 in
       record {
         buffers = ltb-false unit_limits.buffers (p.buffers + 6 * width) f.buffers;
         indices = ltb-false unit_limits.indices (p.indices + 6 * width) f.indices;

@@ -13,6 +13,8 @@ use Rattle.plan.specs.Words.{patch_map}
 use Rattle.plan.specs.Limits.{unit_limits}
 use Rattle.builder.specs.Built.{BuilderCall, step, asked, BuilderState, after, built}
 use Rattle.builder.proofs.Lists.{built_append}
+use Rattle.builder_calls.specs.declared.areas.PlanAreas.{PlanAreas}
+use Rattle.builder_calls.specs.Lent.{SameAreas}
 use Rattle.insert.specs.Wiring.{patches, diagonal}
 use Rattle.insert_calls.specs.Loops.{wired}
 
@@ -22,6 +24,10 @@ wired_then s xs ys e f =
     f
     ∙ ap (λ (v : BuilderState). wired v ys) e
     ∙ sym (ap (built s) (map-append (asked unit_limits) xs ys) ∙ built_append s (map (asked unit_limits) xs) (map (asked unit_limits) ys))
+
+-- the areas are the same ones after both
+pub same_then : (s t u : PlanAreas) → SameAreas s t → SameAreas t u → SameAreas s u
+same_then s t u a b = (b.0 ∙ a.0, b.1 ∙ a.1, b.2 ∙ a.2, b.3 ∙ a.3, b.4 ∙ a.4)
 
 -- ---- the first n of more alike values
 pub take_alike : {A : Type 0} (x : A) (n m : ℕ) → n ≤ m → take n (replicate m x) ≡ replicate n x
@@ -33,13 +39,6 @@ take_alike x (suc n) (suc m) h = ap (λ (xs : List _). x ∷ xs) (take_alike x n
 module _ (input channel dst n : ℕ) where
   abbrev pub left : ℕ → List BuilderCall
   left k = patches input (channel + k) (dst + k) (n - k)
-
-  pub left_all : left 0 ≡ patches input channel dst n
-  left_all =
-      let a : channel + 0 ≡ channel = omega arith in
-      let b : dst + 0 ≡ dst = omega arith in
-      let c : n - 0 ≡ n = omega arith in
-      rw (a, b, c) refl
 
   pub left_turn : (k : ℕ) → k < n → left k ≡ step (patch_map ∷ input ∷ (channel + k) ∷ (dst + k) ∷ []) ∷ left (k + 1)
   left_turn k h =
@@ -54,9 +53,6 @@ module _ (input channel dst n : ℕ) where
   pub left_made : (k : ℕ) → k < n → (s : BuilderState) {t u : BuilderState} → t ≡ after unit_limits s (step (patch_map ∷ input ∷ (channel + k) ∷ (dst + k) ∷ []))
       → wired s (left k) ≡ u → wired t (left (k + 1)) ≡ u
   left_made k h s e f = ap (λ (v : BuilderState). wired v (left (k + 1))) e ∙ sym (ap (wired s) (left_turn k h)) ∙ f
-
-  pub left_none : (k : ℕ) → n ≤ k → left k ≡ []
-  left_none k h = let a : n - k ≡ 0 = omega arith in ap (patches input (channel + k) (dst + k)) a
 
 -- ---- the identity fold: n rows of n in the first of m places
 pub take_set : {A : Type 0} (k : ℕ) (xs : List A) (j : ℕ) (x : A) → j < k → take k (set xs j x) ≡ set (take k xs) j x

@@ -1,2 +1,3 @@
 -- What the functions below the call cite.
 pub mod Loops
+pub mod Own
