@@ -1,4 +1,5 @@
-// The builder calls, of crate `builder_calls`, and the insert, of crate `insert_calls`.
+// The builder calls, of crate `builder_calls`, and the insert, of crate `insert_calls`. The areas travel one by one, as the C interface lends them. Each call is an
+// export of its own name, so that two of the same text stay two.
 ghost use Rattle.std.specs.Prelude.{◌≡◌, length};
 ghost use Rattle.plan.specs.Limits.{unit_limits};
 ghost use Rattle.builder.specs.Growth.{buffers_growth, coefficients_growth, node_growth, step_growth};
@@ -8,6 +9,7 @@ ghost use Rattle.insert.specs.Insert.{insert_span, inserted};
 ghost use Rattle.mixer_replies.specs.Replies.{plan_reply, span_reply, node_reply, buffer_reply};
 
 use builder_calls::PlanBuilder;
+use builder_calls::areas::PlanAreas;
 use insert::InsertPoint;
 use mixer_replies::{
     BufferReply, NodeReply, PlanReply, SpanReply, buffer_reply, node_reply, plan_reply, span_reply,
@@ -107,17 +109,16 @@ pub extern "C" fn mixer_insert(
     ensures words { node_words.new ≡ (inserted unit_limits (builder_state plan indices.old coefficients.old node_floats.old node_words.old steps.old) insert).words }
     ensures steps { steps.new ≡ (inserted unit_limits (builder_state plan indices.old coefficients.old node_floats.old node_words.old steps.old) insert).steps }
 {
-    let mut builder = PlanBuilder { plan };
-    let answer = insert_calls::insert(
-        &mut builder,
-        insert,
+    let mut areas = PlanAreas {
+        builder: PlanBuilder { plan },
         indices,
         coefficients,
-        node_floats,
-        node_words,
+        floats: node_floats,
+        words: node_words,
         steps,
-    );
-    span_reply(builder.plan, answer)
+    };
+    let answer = insert_calls::insert(&mut areas, insert);
+    span_reply(areas.builder.plan, answer)
 }
 
 #[unsafe(no_mangle)]

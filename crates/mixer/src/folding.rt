@@ -1,4 +1,4 @@
-// The calls of crates `format`, `format_balance`, `format_fold`, `format_table` and `rounding`.
+// The calls of crates `format`, `format_balance`, `format_fold`, `format_table` and `rounding`. The parameters are those of include/mixer.h.
 ghost use Rattle.std.specs.Prelude.{◌≡◌, length};
 ghost use Rattle.rounding.specs.Narrow.{narrowed};
 ghost use Rattle.format.specs.Formats.{channels, label_of, index_of, has};
@@ -9,6 +9,7 @@ ghost use Rattle.mixer_replies.specs.Replies.{status_of, gains_reply, stereo_rep
 
 use format::Format;
 use format_fold::FoldGains;
+use format_table::Table;
 use mixer_replies::{GainsReply, Status, StereoReply, gains_reply, status_of, stereo_reply};
 
 #[unsafe(no_mangle)]
@@ -93,8 +94,10 @@ pub extern "C" fn mixer_width_matrix_with(
         dst,
         gains,
         normalise,
-        pairs,
-        table_gains,
+        Table {
+            pairs,
+            gains: table_gains,
+        },
         matrix,
     ))
 }

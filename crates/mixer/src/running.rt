@@ -1,4 +1,5 @@
 // The plan check, of crate `plan_check`; `process`, of crate `run_process`; the calls of crates `setting`, `input` and `adoption`.
+// The parameters are those of include/mixer.h, area by area.
 ghost use Rattle.std.specs.Prelude.{◌≡◌, length};
 ghost use Rattle.plan.specs.Areas.{areas};
 ghost use Rattle.plan.specs.Check.{check_plan};
@@ -9,9 +10,12 @@ ghost use Rattle.adoption.specs.Adoption.{lent, adoption_answer, adoption_floats
 ghost use Rattle.mixer_replies.specs.Replies.{status_of, count_reply};
 ghost use Rattle.mixer.specs.Lookup.{lookup_reply, lookup_area};
 
+use adoption::Nodes;
 use mixer_replies::{CountReply, Status, count_reply, status_of};
 use plan::Plan;
+use plan_areas::Areas;
 use refusal::Reason;
+use run::Given;
 
 #[unsafe(no_mangle)]
 pub extern "C" fn mixer_check_plan(
@@ -25,15 +29,15 @@ pub extern "C" fn mixer_check_plan(
 ) -> Status
     ensures { result ≡ status_of (check_plan plan (areas indices.now coefficients.now node_floats.now node_words.now steps.now buffers.now)) }
 {
-    status_of(plan_check::check_plan(
-        plan,
+    let areas = Areas {
         indices,
         coefficients,
         node_floats,
         node_words,
         steps,
         buffers,
-    ))
+    };
+    status_of(plan_check::check_plan(plan, &areas))
 }
 
 // Of the plan only its count of nodes is used.
@@ -72,18 +76,15 @@ pub extern "C" fn mixer_process(
     ensures buffers { buffers.new ≡ (processed (given plan indices.now coefficients.now steps.now directory.now samples.now) (state node_floats.old node_words.old buffers.old output.old 0)).buffers }
     ensures output { output.new ≡ (processed (given plan indices.now coefficients.now steps.now directory.now samples.now) (state node_floats.old node_words.old buffers.old output.old 0)).output }
 {
-    count_reply(run_process::process(
+    let given = Given {
         plan,
         indices,
         coefficients,
-        node_floats,
-        node_words,
         steps,
-        buffers,
         directory,
         samples,
-        output,
-    ))
+    };
+    count_reply(run_process::process(&given, node_floats, node_words, buffers, output))
 }
 
 // C gets no reference back, so the part of the channel is copied to the front of `part`.
@@ -102,7 +103,7 @@ pub extern "C" fn mixer_lookup(
     if part.len() < found.len() {
         return count_reply(Err(Reason::ShortArea.into()));
     }
-    lists::put_floats(found, 0, part);
+    lists::put(found, 0, part);
     count_reply(Ok(found.len()))
 }
 
@@ -129,14 +130,10 @@ pub extern "C" fn mixer_adopt(
     ensures floats { node_floats.new ≡ adoption_floats (lent plan.nodes node_floats.old node_words.old) (lent old_plan.nodes old_floats.now old_words.now) pairs.now ramp }
     ensures words { node_words.new ≡ adoption_words (lent plan.nodes node_floats.old node_words.old) (lent old_plan.nodes old_floats.now old_words.now) pairs.now ramp }
 {
-    status_of(adoption::adopt(
-        plan.nodes,
-        node_floats,
-        node_words,
-        old_plan.nodes,
-        old_floats,
-        old_words,
-        pairs,
-        ramp,
-    ))
+    let old = Nodes {
+        count: old_plan.nodes,
+        floats: old_floats,
+        words: old_words,
+    };
+    status_of(adoption::adopt(plan.nodes, node_floats, node_words, old, pairs, ramp))
 }

@@ -1,4 +1,5 @@
-// The calls of crate `trace_calls`.
+// The calls of crate `trace_calls`. The parameters are those of include/mixer.h, area by area. Each call is an export of its own name, so that
+// two of the same text stay two.
 ghost use Rattle.std.specs.Prelude.{◌≡◌, length};
 ghost use Rattle.trace.specs.Calls.{sources_answer, sources_area, all_answer, all_counts, all_lists, clean_answer};
 ghost use Rattle.mixer_replies.specs.Replies.{count_reply, clean_reply};

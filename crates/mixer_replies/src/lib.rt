@@ -55,6 +55,7 @@ pub struct CountReply {
     pub count: usize,
 }
 
+// C has no Result: hence a status beside the value.
 #[repr(C)]
 #[derive(Clone, Copy)]
 pub struct CleanReply {
@@ -125,6 +126,7 @@ pub fn node_reply(plan: Plan, answer: Result<u32, Refusal>) -> NodeReply
     }
 }
 
+// Each reply is a struct of include/mixer.h: hence a function for each.
 pub fn buffer_reply(answer: Result<u32, Refusal>) -> BufferReply
     ensures { result ≡ buffer_reply answer }
 {
