@@ -1,5 +1,7 @@
-// A float on the standard output, exactly.
+// A float, exactly.
 use comparison::floats;
+use std::fmt;
+use std::fmt::{Display, Formatter, Write};
 
 const SIGN: u64 = 0x8000_0000_0000_0000;
 
@@ -11,93 +13,80 @@ const HIDDEN: u64 = 0x10_0000_0000_0000;
 // The exponent field of the f64 from 2^52 up to 2^53, whose digits are a whole number.
 const WHOLE: u64 = 1075;
 
-// x, exactly.
-pub fn number(x: f64) {
-    let bits = floats::bits_of_double(x);
-    if bits >= SIGN {
-        text::put(b"-");
+#[derive(Clone, Copy)]
+pub struct Exact(pub f64);
+
+impl From<f32> for Exact {
+    fn from(x: f32) -> Exact {
+        Exact(std::num::f32_to_f64_with_nan(x))
     }
-    magnitude(bits % SIGN);
+}
+
+impl Display for Exact {
+    fn fmt<W: Write>(&self, f: &mut Formatter<W>) -> fmt::Result {
+        let bits = floats::bits_of_double(self.0);
+        if bits >= SIGN {
+            f.write_str("-")?;
+        }
+        magnitude(bits % SIGN, f)
+    }
+}
+
+// With its sign, + too.
+#[derive(Clone, Copy)]
+pub struct Signed(pub Exact);
+
+impl Display for Signed {
+    fn fmt<W: Write>(&self, f: &mut Formatter<W>) -> fmt::Result {
+        if floats::bits_of_double(self.0.0) < SIGN {
+            f.write_str("+")?;
+        }
+        self.0.fmt(f)
+    }
 }
 
 // The number with these bits, whose sign is +.
-fn magnitude(bits: u64) {
-    let field = bits / HIDDEN;
+fn magnitude<W: Write>(bits: u64, f: &mut Formatter<W>) -> fmt::Result {
     let digits = bits % HIDDEN;
-    if bits == NAN {
-        text::put(b"NaN");
-        return;
+    match bits / HIDDEN {
+        _ if bits == NAN => f.write_str("NaN"),
+        2047 => f.write_str("infinity"),
+        0 => ratio(digits, WHOLE - 1, f),
+        field @ 1..=WHOLE => ratio(HIDDEN + digits, WHOLE - field, f),
+        _ => write!(f, "bits {bits:016x}"),
     }
-    if field == 2047 {
-        text::put(b"infinity");
-        return;
-    }
-    if field > WHOLE {
-        text::put(b"bits ");
-        text::hex(bits, 16);
-        return;
-    }
-    if field == 0 {
-        ratio(digits, WHOLE - 1);
-        return;
-    }
-    ratio(HIDDEN + digits, WHOLE - field);
 }
 
-// m / 2^f.
-fn ratio(m: u64, f: u64) {
-    let mut m = m;
-    let mut f = f;
-    while f > 0 && m % 2 == 0 {
-        m /= 2;
-        f -= 1;
+// m / 2^p.
+fn ratio<W: Write>(m: u64, p: u64, f: &mut Formatter<W>) -> fmt::Result {
+    if m == 0 {
+        return f.write_str("0");
     }
-    lowest(m, f);
+    let common = p.min(m.trailing_zeros() as u64);
+    lowest(m >> common, p - common, f)
 }
 
-// m / 2^f in lowest terms: a decimal of at most three places, or a whole number and a multiple of a power of two.
-fn lowest(m: u64, f: u64) {
-    match f {
-        0 => text::whole(m),
-        1 => decimal(m / 2, m % 2 * 5),
-        2 => decimal(m / 4, m % 4 * 25),
-        3 => decimal(m / 8, m % 8 * 125),
+// m / 2^p in lowest terms: a decimal of at most three places, or a whole number and a multiple of a power of two.
+fn lowest<W: Write>(m: u64, p: u64, f: &mut Formatter<W>) -> fmt::Result {
+    match p {
+        0 => write!(f, "{m}"),
+        1 => write!(f, "{}.{}", m / 2, m % 2 * 5),
+        2 => write!(f, "{}.{}", m / 4, m % 4 * 25),
+        3 => write!(f, "{}.{}", m / 8, m % 8 * 125),
         4..=63 => {
-            let n = m >> f;
+            let n = m >> p;
             if n > 0 {
-                text::whole(n);
-                text::put(b" + ");
+                write!(f, "{n} + ")?;
             }
-            power(m ^ (n << f), f);
+            power(m ^ (n << p), p, f)
         }
-        _ => power(m, f),
+        _ => power(m, p, f),
     }
 }
 
-fn decimal(n: u64, places: u64) {
-    text::whole(n);
-    text::put(b".");
-    text::whole(places);
-}
-
-fn power(m: u64, f: u64) {
+fn power<W: Write>(m: u64, p: u64, f: &mut Formatter<W>) -> fmt::Result {
     if m != 1 {
-        text::whole(m);
-        text::put(b" x ");
+        write!(f, "{m} x ")?;
     }
-    text::put(b"2^-");
-    text::whole(f);
-}
-
-// x with its sign, + too.
-pub fn signed(x: f32) {
-    let x = std::num::f32_to_f64_with_nan(x);
-    if floats::bits_of_double(x) < SIGN {
-        text::put(b"+");
-    }
-    number(x);
-}
-
-pub fn sample(x: f32) {
-    number(std::num::f32_to_f64_with_nan(x));
+    write!(f, "2^-{p}")
 }

@@ -1,15 +1,18 @@
-// A plan laid out call by call, in areas with room for each plan of the table. A call that is refused says so on the standard output.
-use crate::answers;
+// A plan laid out call by call, in areas with room for each plan of the table.
 use builder_calls::PlanBuilder;
 use node::Node;
-use refusal::Refusal;
+use refusal::{Answer, Refusal};
+use run::Given;
 
-// The id of a plan's only node.
+// The id of a plan's only node, a number that its writer chooses.
 const ID: u32 = 7;
 
 // Patch 3 to buffer 0, Clear 1, Send 0 to 1, Output 1 to slot 2.
-pub const SEND: [u32; 19] = [
-    7, 3, 0, 0, 192, 1, 1, 1016, 0, 0, 1, 1, 1, 0, 1, 1072, 1, 1, 2,
+pub const SEND: [&[u32]; 4] = [
+    &[7, 3, 0, 0],
+    &[192, 1, 1],
+    &[1016, 0, 0, 1, 1, 1, 0, 1],
+    &[1072, 1, 1, 2],
 ];
 
 // The builder of a plan, and the areas that it is lent.
@@ -25,10 +28,11 @@ pub struct Layout {
 }
 
 impl Layout {
-    // An empty plan with n buffers and the weights as coefficients.
-    pub fn begun(block: usize, n: usize, weights: &[f32]) -> Layout {
+    // An empty plan with so many buffers and the weights as coefficients.
+    // The count is of buffers, and not the length of the slice beside it.
+    pub fn begun(block: usize, buffers: usize, weights: &[f32]) -> Result<Layout, Refusal> {
         let mut layout = Layout {
-            builder: PlanBuilder::empty(block),
+            builder: PlanBuilder::new(block)?,
             indices: [0; 4],
             coefficients: [0.0; 1],
             node_floats: [0.0; Node::FLOATS],
@@ -36,78 +40,69 @@ impl Layout {
             steps: [0; 19],
             buffers: [0.0; 6],
         };
-        answers::refused(PlanBuilder::new(block));
-        answers::refused(layout.builder.buffers(n, &mut layout.indices));
-        answers::refused(
-            layout
-                .builder
-                .coefficients(weights, &mut layout.coefficients),
-        );
+        layout.builder.buffers(buffers, &mut layout.indices)?;
         layout
+            .builder
+            .coefficients(weights, &mut layout.coefficients)?;
+        Ok(layout)
     }
 
     // A node that ramps to the values.
-    pub fn node(&mut self, values: &[f32], ramp: u32) {
-        answers::refused(
-            self.builder.node(
-                ID,
-                values,
-                ramp,
-                0,
-                &mut self.node_floats,
-                &mut self.node_words,
-            ),
-        );
-    }
-
-    // The steps whose records stand one after the other.
-    fn step_all(&mut self, records: &[u32]) {
-        let mut rest = records;
-        while let Some(&map) = rest.first() {
-            answers::refused(self.builder.step(rest, &mut self.steps));
-            let n = 1 + plan_reader::field_count(map);
-            rest = rest.get(n..).unwrap_or(&[]);
-        }
+    pub fn node(&mut self, values: &[f32], ramp: u32) -> Answer {
+        self.builder.node(
+            ID,
+            values,
+            ramp,
+            0,
+            &mut self.node_floats,
+            &mut self.node_words,
+        )?;
+        Ok(())
     }
 
     // The plan with the steps of the records, ready to run.
-    pub fn finish(&mut self, records: &[u32]) {
-        self.step_all(records);
-        answers::refused(self.builder.finish(&mut self.buffers));
+    pub fn finish(&mut self, records: &[&[u32]]) -> Answer {
+        for record in records {
+            self.builder.step(record, &mut self.steps)?;
+        }
+        self.builder.finish(&mut self.buffers)
     }
 
     // The node set to the values at once.
-    pub fn set(&mut self, values: &[f32]) {
-        answers::refused(setting::set_param(
+    pub fn set(&mut self, values: &[f32]) -> Answer {
+        setting::set_param(
             self.builder.plan.nodes,
             ID,
             values,
             0,
             &mut self.node_floats,
             &mut self.node_words,
-        ));
+        )
     }
 
-    // One run, and how many samples it wrote; a refusal writes its number on the standard output.
-    pub fn process(&mut self, directory: &[u32], samples: &[f32], output: &mut [f32]) -> usize {
-        match run_process::process(
-            self.builder.plan,
-            &self.indices,
-            &self.coefficients,
-            &mut self.node_floats,
-            &mut self.node_words,
-            &self.steps,
-            &mut self.buffers,
+    // What one run leaves in an output area of N samples that are -1 before.
+    pub fn process<const N: usize>(
+        &mut self,
+        directory: &[u32],
+        samples: &[f32],
+    ) -> Result<[f32; N], Refusal> {
+        let mut output = [-1.0f32; N];
+        let given = Given {
+            plan: self.builder.plan,
+            indices: &self.indices,
+            coefficients: &self.coefficients,
+            steps: &self.steps,
             directory,
             samples,
-            output,
-        ) {
-            Ok(n) => n,
-            Err(r) => {
-                text::refused(r);
-                0
-            }
-        }
+        };
+        run_process::process(
+            &given,
+            &mut self.node_floats,
+            &mut self.node_words,
+            &mut self.buffers,
+            &mut output,
+        )?;
+        Ok(output)
     }
 
     // Whether the node is at rest.

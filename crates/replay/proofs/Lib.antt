@@ -1,2 +1,2 @@
 -- The laws of the lent areas.
-pub mod Fronts
+pub mod Rooms

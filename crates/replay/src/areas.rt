@@ -1,7 +1,6 @@
-// The areas that are lent to a call, filled from the words of the file.
+// The areas that are lent to a call, of the words of the file.
 ghost use Rattle.std.specs.Prelude.{◌≡◌, length};
 
-use crate::data::area;
 use comparison::{Entry, floats};
 
 // The longest area that a call is lent here: the lists of 32 slots, and some places behind them.
@@ -31,15 +30,9 @@ impl Loaded for f32 {
 }
 
 // Room for the longest area. The `ensures` gives only the length, so that no proof looks at the zeros.
+#[tactic(auto, using(crate::proofs::Rooms::filled))]
 pub fn room<T: Loaded>() -> [T; LONGEST]
     ensures { 8200 ≡ length result }
 {
     [T::of_word(0); LONGEST]
-}
-
-// Area i of a record: as many entries as there are, to the front of an area.
-pub fn load<T: Loaded>(words: &[u32], record: &[u32], i: u8, into: &mut [T]) {
-    for (entry, &word) in into.iter_mut().zip(area(words, record, i)) {
-        *entry = T::of_word(word);
-    }
 }

@@ -1,161 +1,205 @@
-// What a call gave, beside what the file has. Each comparison writes the first difference to the standard output.
-ghost use Rattle.std.specs.Prelude.{◌≡◌, is_none};
+// What a call gave, beside what the file has.
+ghost use Rattle.std.specs.Prelude.{◌≡◌, nat_eq, is_ok, is_none};
 ghost use Rattle.comparison.specs.Lists.{compared};
 
-use crate::data;
-use crate::data::area;
+use crate::data::Record;
 use comparison::{Entry, floats};
 use plan::{Plan, Span};
-use refusal::{Answer, Refusal};
+use refusal::Refusal;
+use std::fmt;
 
-fn differs(what: &[u8], reference: u32, here: u32) {
-    text::put(what);
-    text::put(b": reference ");
-    text::hex(reference as u64, 8);
-    text::put(b", here ");
-    text::hex(here as u64, 8);
+// A word of the reference, and the one here.
+#[derive(Clone, Copy, Debug, PartialEq, Eq)]
+pub struct Words {
+    reference: u32,
+    here: u32,
 }
 
-fn differs_at(what: &[u8], i: usize, reference: u32, here: u32) {
-    text::put(what);
-    text::put(b"[");
-    text::whole(i as u64);
-    differs(b"]", reference, here);
+// The first difference of a record.
+#[derive(Clone, Copy, Debug, PartialEq, Eq)]
+pub struct Difference {
+    what: &'static str,
+    // The entry of a list.
+    entry: Option<usize>,
+    // The upper words, where a number has two.
+    upper: Option<Words>,
+    lower: Words,
+}
+
+pub type Compared = Result<(), Difference>;
+
+impl Words {
+    // The lower words of two numbers.
+    fn lower(reference: u64, here: u64) -> Words {
+        Words {
+            reference: (reference % 0x1_0000_0000) as u32,
+            here: (here % 0x1_0000_0000) as u32,
+        }
+    }
+}
+
+impl fmt::Display for Words {
+    fn fmt<W: fmt::Write>(&self, f: &mut fmt::Formatter<W>) -> fmt::Result {
+        write!(
+            f,
+            "reference {:08x}, here {:08x}",
+            self.reference, self.here
+        )
+    }
+}
+
+impl fmt::Display for Difference {
+    fn fmt<W: fmt::Write>(&self, f: &mut fmt::Formatter<W>) -> fmt::Result {
+        f.write_str(self.what)?;
+        if let Some(i) = self.entry {
+            write!(f, "[{i}]")?;
+        }
+        if let Some(upper) = self.upper {
+            write!(f, ": {upper}, lower half")?;
+        }
+        write!(f, ": {}", self.lower)
+    }
 }
 
 // One number.
-pub fn number(what: &[u8], reference: u32, here: u32) -> bool {
+// Here and below the same clause for each width of number, which have no type in common.
+pub fn number(what: &'static str, reference: u32, here: u32) -> Compared
+    ensures { is_ok result ≡ nat_eq reference here }
+{
     if reference == here {
-        return true;
+        return Ok(());
     }
-    differs(what, reference, here);
-    false
+    Err(Difference {
+        what,
+        entry: None,
+        upper: None,
+        lower: Words { reference, here },
+    })
 }
 
 // Yes or no; the reference's yes is 1.
-pub fn yes(what: &[u8], reference: u32, here: bool) -> bool {
+pub fn yes(what: &'static str, reference: u32, here: bool) -> Compared {
     number(what, reference, u32::from(here))
 }
 
-fn low(n: u64) -> u32 {
-    (n % 0x1_0000_0000) as u32
-}
-
 // One number of 64 bits.
-pub fn long(what: &[u8], reference: u64, here: u64) -> bool {
+fn long(what: &'static str, reference: u64, here: u64) -> Compared
+    ensures { is_ok result ≡ nat_eq reference here }
+{
     if reference == here {
-        return true;
+        return Ok(());
     }
-    differs(what, low(reference >> 32), low(here >> 32));
-    differs(b", lower half", low(reference), low(here));
-    false
+    Err(Difference {
+        what,
+        entry: None,
+        upper: Some(Words::lower(reference >> 32, here >> 32)),
+        lower: Words::lower(reference, here),
+    })
 }
 
-pub fn size(what: &[u8], reference: usize, here: usize) -> bool {
+pub fn size(what: &'static str, reference: usize, here: usize) -> Compared
+    ensures { is_ok result ≡ nat_eq reference here }
+{
     long(what, reference as u64, here as u64)
 }
 
-pub fn double(what: &[u8], reference: u64, here: f64) -> bool {
+// An f64, by its bits.
+pub fn double(what: &'static str, reference: u64, here: f64) -> Compared {
     long(what, reference, floats::bits_of_double(here))
 }
 
 // The word of entry i, and 0 past the end.
 fn word_at<T: Entry>(list: &[T], i: usize) -> u32 {
-    if i < list.len() {
-        return list[i].word();
+    match list.get(i) {
+        Some(entry) => entry.word(),
+        None => 0,
     }
-    0
 }
 
-// Whether two lists are the same; if not, their words at the first difference are written.
-fn same_lists<T: Entry>(what: &[u8], reference: &[u32], here: &[T]) -> bool
-    ensures { result ≡ is_none (compared T.word_of reference.now here.now) }
+// Whether two lists are the same; if not, their words at the first difference.
+fn list<T: Entry>(what: &'static str, reference: &[u32], here: &[T]) -> Compared
+    ensures { is_ok result ≡ is_none (compared T.word_of reference.now here.now) }
 {
     match comparison::difference(reference, here) {
-        Some(i) => {
-            differs_at(what, i, word_at(reference, i), word_at(here, i));
-            false
-        }
-        None => true,
+        Some(i) => Err(Difference {
+            what,
+            entry: Some(i),
+            upper: None,
+            lower: Words {
+                reference: word_at(reference, i),
+                here: word_at(here, i),
+            },
+        }),
+        None => Ok(()),
     }
-}
-
-// The number and the place of a refusal, which are 0 in the record where the call is accepted; the place is 0 where it is at no step.
-fn outcome(record: &[u32], of: u32, place: u32) -> bool {
-    number(b"refusal's number", data::word(record, 2), of)
-        && number(b"refusal's place", data::word(record, 3), place)
-}
-
-pub fn refused(record: &[u32], r: Refusal) -> bool {
-    outcome(record, r.reason.number(), r.place.unwrap_or(0))
-}
-
-pub fn accepted(record: &[u32]) -> bool {
-    outcome(record, 0, 0)
-}
-
-pub fn answer(record: &[u32], answer: Answer) -> bool {
-    match answer {
-        Ok(()) => accepted(record),
-        Err(r) => refused(record, r),
-    }
-}
-
-fn same_tables(reference: &[u32], here: Plan) -> bool {
-    size(
-        b"buffers of the record",
-        data::size(reference, 2),
-        here.buffers,
-    ) && size(
-        b"indices of the record",
-        data::size(reference, 4),
-        here.indices,
-    ) && size(
-        b"coefficients of the record",
-        data::size(reference, 6),
-        here.coefficients,
-    )
-}
-
-fn same_steps(reference: &[u32], here: Plan) -> bool {
-    size(b"nodes of the record", data::size(reference, 8), here.nodes)
-        && size(
-            b"steps of the record",
-            data::size(reference, 10),
-            here.steps,
-        )
-        && size(
-            b"words of the record",
-            data::size(reference, 12),
-            here.words,
-        )
-}
-
-// A plan's record: seven counts.
-fn same_plan(reference: &[u32], here: Plan) -> bool {
-    size(b"block of the record", data::size(reference, 0), here.block)
-        && same_tables(reference, here)
-        && same_steps(reference, here)
-}
-
-// A span: words i and i + 1 of the record.
-pub fn span(record: &[u32], i: u8, here: Span) -> bool {
-    number(
-        b"start of the span",
-        data::word(record, i as usize),
-        here.start,
-    ) && number(
-        b"length of the span",
-        data::word(record, i as usize + 1),
-        here.len,
-    )
 }
 
 // What a call left, beside area i of the record.
-pub fn list_left<T: Entry>(what: &[u8], words: &[u32], record: &[u32], i: u8, here: &[T]) -> bool {
-    same_lists(what, area(words, record, i), here)
+pub fn left<T: Entry>(what: &'static str, record: Record<'_>, i: u8, here: &[T]) -> Compared {
+    list(what, record.area(i), here)
 }
 
-pub fn plan_left(words: &[u32], record: &[u32], i: u8, here: Plan) -> bool {
-    same_plan(area(words, record, i), here)
+// The number and the place of a refusal, which are 0 in the record where the call is accepted; the place is 0 where it is at no step.
+fn outcome(record: Record<'_>, of: u32, place: u32) -> Compared {
+    number("refusal's number", record.word(2), of)?;
+    number("refusal's place", record.word(3), place)
+}
+
+// The call can't be refused.
+pub fn never_refused(record: Record<'_>) -> Compared {
+    outcome(record, 0, 0)
+}
+
+// What a call answers, where it is accepted; none where it is refused as the record says.
+// Either case is compared with the record: no refusal is handed on.
+pub fn accepted<T: Drop>(
+    record: Record<'_>,
+    answer: Result<T, Refusal>,
+) -> Result<Option<T>, Difference> {
+    match answer {
+        Ok(value) => {
+            outcome(record, 0, 0)?;
+            Ok(Some(value))
+        }
+        Err(r) => {
+            outcome(record, r.reason.number(), r.place.unwrap_or(0))?;
+            Ok(None)
+        }
+    }
+}
+
+// An answer of one number, word i of the record.
+pub fn numbered(
+    what: &'static str,
+    record: Record<'_>,
+    i: u8,
+    answer: Result<u32, Refusal>,
+) -> Compared {
+    match accepted(record, answer)? {
+        Some(n) => number(what, record.word(i), n),
+        None => Ok(()),
+    }
+}
+
+// A span, beside words i and i + 1 of the record.
+pub fn span(record: Record<'_>, i: u8, here: Span) -> Compared {
+    let reference = record.span(i);
+    number("start of the span", reference.start, here.start)?;
+    number("length of the span", reference.len, here.len)
+}
+
+// A plan's record, beside area i of the record. `==` would not say which count differs.
+pub fn plan(record: Record<'_>, i: u8, here: Plan) -> Compared {
+    let reference = record.plan(i);
+    size("block of the record", reference.block, here.block)?;
+    size("buffers of the record", reference.buffers, here.buffers)?;
+    size("indices of the record", reference.indices, here.indices)?;
+    size(
+        "coefficients of the record",
+        reference.coefficients,
+        here.coefficients,
+    )?;
+    size("nodes of the record", reference.nodes, here.nodes)?;
+    size("steps of the record", reference.steps, here.steps)?;
+    size("words of the record", reference.words, here.words)
 }

@@ -1,84 +1,102 @@
-// What was compared, as counts: records by kind at 1 to 25, refused calls by number at 33 to 53, then output samples, the inputs of single
-// lists, and the slots of calls that list all.
-use crate::data::word;
-use crate::{data, kinds};
+// What was compared, as counts.
+use crate::data::Record;
+use crate::kinds::Kind;
+use refusal::Reason;
+use std::fmt;
 
-const REFUSED: u32 = 32;
+// One more than there are kinds, which start at 1.
+const KINDS: usize = Kind::ALL.len() + 1;
 
-const SAMPLES: usize = 54;
+// The reasons have the numbers from 1 to this one.
+const LAST_REASON: u32 = Reason::PairNotCovered as u32;
 
-const INPUTS: usize = 55;
+const REASONS: usize = LAST_REASON as usize + 1;
 
-const SLOTS: usize = 56;
+// How often each number came, of those below N.
+#[derive(Clone, Copy)]
+struct Counts<const N: usize> {
+    of: [u64; N],
+}
 
-fn add(tally: &mut [u64], i: usize, n: u64) {
-    if i < tally.len() {
-        tally[i] = std::num::wrapping_add_u64(tally[i], n);
+impl<const N: usize> Counts<N> {
+    fn new() -> Counts<N> {
+        Counts { of: [0; N] }
+    }
+
+    fn add(&mut self, number: u32) {
+        if let Some(count) = self.of.get_mut(number as usize) {
+            *count = count.wrapping_add(1);
+        }
+    }
+
+    fn at(&self, number: u32) -> u64 {
+        self.of.get(number as usize).copied().unwrap_or(0)
     }
 }
 
-fn refused(number: u32, tally: &mut [u64]) {
-    if number > 0 {
-        add(tally, REFUSED as usize + number as usize, 1);
+#[derive(Drop)]
+pub struct Tally {
+    // By kind.
+    records: Counts<KINDS>,
+    // By the refusal's number, with the accepted calls at 0.
+    refused: Counts<REASONS>,
+    samples: u64,
+    // Of single lists.
+    inputs: u64,
+    // Of calls that list all.
+    slots: u64,
+}
+
+impl Tally {
+    pub fn new() -> Tally {
+        Tally {
+            records: Counts::new(),
+            refused: Counts::new(),
+            samples: 0,
+            inputs: 0,
+            slots: 0,
+        }
+    }
+
+    // A record that was compared.
+    pub fn count(&mut self, kind: Kind, record: Record<'_>) {
+        self.records.add(kind as u32);
+        self.refused.add(record.word(2));
+        // The kinds whose records count something: a table of functions would be no plainer.
+        match kind {
+            Kind::Process => self.samples = self.samples.wrapping_add(record.long(33)),
+            Kind::OutputSources => self.inputs = self.inputs.wrapping_add(record.long(18)),
+            Kind::AllSources => self.slots = self.slots.wrapping_add(record.long(21)),
+            _ => (),
+        }
+    }
+
+    fn by_call<W: fmt::Write>(&self, f: &mut fmt::Formatter<W>) -> fmt::Result {
+        f.write_str("records compared, by call:\n")?;
+        for kind in Kind::ALL {
+            write!(f, "  {kind}: {}\n", self.records.at(kind as u32))?;
+        }
+        Ok(())
+    }
+
+    fn by_reason<W: fmt::Write>(&self, f: &mut fmt::Formatter<W>) -> fmt::Result {
+        f.write_str("refused calls, by number:\n")?;
+        for number in 1..=LAST_REASON {
+            write!(f, "  {number}: {}\n", self.refused.at(number))?;
+        }
+        Ok(())
     }
 }
 
-// The count at words i and i + 1 of a record of a kind, to place `at`.
-fn counted(record: &[u32], kind: u32, i: u8, at: usize, tally: &mut [u64]) {
-    if word(record, 0) == kind {
-        add(tally, at, data::long(record, i));
+impl fmt::Display for Tally {
+    fn fmt<W: fmt::Write>(&self, f: &mut fmt::Formatter<W>) -> fmt::Result {
+        self.by_call(f)?;
+        self.by_reason(f)?;
+        write!(
+            f,
+            "{} output samples, {} inputs listed, ",
+            self.samples, self.inputs
+        )?;
+        write!(f, "{} slots listed at once\n", self.slots)
     }
-}
-
-// A record that was compared.
-pub fn record(record: &[u32], tally: &mut [u64]) {
-    add(tally, word(record, 0) as usize, 1);
-    refused(word(record, 2), tally);
-    counted(record, kinds::PROCESS, 33, SAMPLES, tally);
-    counted(record, kinds::OUTPUT_SOURCES, 18, INPUTS, tally);
-    counted(record, kinds::ALL_SOURCES, 21, SLOTS, tally);
-}
-
-fn at(tally: &[u64], i: usize) -> u64 {
-    if i < tally.len() {
-        return tally[i];
-    }
-    0
-}
-
-// The name of a count: that of the call, or the number of the refusal.
-fn name(i: u32) {
-    if i <= REFUSED {
-        kinds::name(i);
-        return;
-    }
-    text::whole((i - REFUSED) as u64);
-}
-
-fn line(tally: &[u64], i: u32) {
-    text::put(b"  ");
-    name(i);
-    text::put(b": ");
-    text::whole(at(tally, i as usize));
-    text::put(b"\n");
-}
-
-// The counts behind one up to another, a line each.
-fn lines(tally: &[u64], from: u32, to: u32) {
-    for i in from..to {
-        line(tally, i + 1);
-    }
-}
-
-pub fn report(tally: &[u64]) {
-    text::put(b"records compared, by call:\n");
-    lines(tally, 0, kinds::TO_F32);
-    text::put(b"refused calls, by number:\n");
-    lines(tally, REFUSED, REFUSED + 21);
-    text::whole(at(tally, SAMPLES));
-    text::put(b" output samples, ");
-    text::whole(at(tally, INPUTS));
-    text::put(b" inputs listed, ");
-    text::whole(at(tally, SLOTS));
-    text::put(b" slots listed at once\n");
 }

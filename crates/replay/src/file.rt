@@ -1,75 +1,56 @@
 // The file: a text of 1,024 bytes, then u32 words, the lowest byte first. Words 0 to 4: magic, version, words in all, records, where they start.
 ghost use Rattle.std.specs.Prelude.{◌≡◌, length};
-ghost use Rattle.replay.specs.Lists.{Front};
 
+use crate::counts::Tally;
 use crate::data::word;
-use crate::{counts, data, records};
+use crate::records;
 
 const TEXT: usize = 1024;
 
 const MAGIC: u32 = 0x5245_504c;
 
+// The version of the file's form, which numbers no kind.
 const VERSION: u32 = 5;
-
-fn wide(n: u8) -> u32 {
-    n as u32
-}
-
-fn byte(bytes: &[u8], i: usize) -> u32 {
-    if i < bytes.len() {
-        return wide(bytes[i]);
-    }
-    0
-}
 
 // The word of four bytes.
 fn word_of(four: &[u8]) -> u32 {
-    let low = byte(four, 0) | (byte(four, 1) << 8);
-    let high = byte(four, 2) | (byte(four, 3) << 8);
-    low | (high << 16)
+    match *four {
+        [a, b, c, d] => u32::from_le_bytes([a, b, c, d]),
+        _ => 0,
+    }
 }
 
-// The words of the bytes, into an area; how many there are, at most as many as it holds.
-fn fill(bytes: &[u8], words: &mut [u32]) -> usize
-    ensures { Front result words.new }
-{
-    let n = data::least(bytes.len() / 4, words.len());
+// The words of the bytes, as many as there is room for: the front of the room.
+fn fill<'a>(bytes: &[u8], room: &'a mut [u32]) -> &'a [u32] {
+    let n = (bytes.len() / 4).min(room.len());
+    let words = &mut room[..n];
     for (word, four) in words.iter_mut().zip(bytes.chunks_exact(4)) {
         *word = word_of(four);
     }
-    n
-}
-
-fn bad(why: &[u8]) {
-    text::put(b"bad data: ");
-    text::put(why);
-    text::put(b"\n");
+    words
 }
 
 // The words are of this form, and all there.
-fn whole(words: &[u32]) -> bool {
+fn tested(words: &[u32]) -> Result<(), &'static str> {
     if word(words, 0) != MAGIC {
-        bad(b"not a file of this kind");
-        return false;
+        return Err("not a file of this kind");
     }
     if word(words, 1) != VERSION {
-        bad(b"of another version");
-        return false;
+        return Err("of another version");
     }
     if word(words, 2) as usize != words.len() {
-        bad(b"not of the length that it names");
-        return false;
+        return Err("not of the length that it names");
     }
-    true
+    Ok(())
 }
 
 fn records_of(words: &[u32]) {
-    let mut tally = [0u64; 64];
+    let mut tally = Tally::new();
     let n = word(words, 3);
-    let same = records::all(words, word(words, 4) as usize, n, &mut tally);
-    counts::report(&tally);
-    if same {
-        text::put(b"no difference\n");
+    let compared = records::all(words, word(words, 4) as usize, n, &mut tally);
+    match compared {
+        Ok(()) => text::print(format_args!("{tally}no difference\n")),
+        Err(stop) => text::print(format_args!("{stop}{tally}")),
     }
 }
 
@@ -80,15 +61,12 @@ fn room() -> [u32; 294912]
     [0; 294912]
 }
 
-// Runs the records of a file and writes what came of it.
-pub fn replay(bytes: &[u8]) {
-    if bytes.len() < TEXT {
-        bad(b"shorter than its text");
-        return;
-    }
-    let mut words = room();
-    let n = fill(&bytes[TEXT..], &mut words);
-    if whole(&words[..n]) {
-        records_of(&words[..n]);
-    }
+// Runs the records of a file and writes what came of it, or answers why it is no data.
+pub fn replay(bytes: &[u8]) -> Result<(), &'static str> {
+    let bytes = bytes.get(TEXT..).ok_or("shorter than its text")?;
+    let mut room = room();
+    let words = fill(bytes, &mut room);
+    tested(words)?;
+    records_of(words);
+    Ok(())
 }

@@ -1,85 +1,60 @@
 // Records of formats, balances, folds and the rounding.
-use crate::data::{length_in, word};
-use crate::{areas, compare, data};
+use crate::areas::room;
+use crate::compare::{self, Compared};
+use crate::data::{Record, double, word};
 use comparison::floats;
 use format::Format;
 use format_fold::FoldGains;
-use refusal::Refusal;
-
-// The f64 of words i and i + 1.
-fn double(record: &[u32], i: u8) -> f64 {
-    floats::double_of(data::long(record, i))
-}
-
-fn same_double(what: &[u8], record: &[u32], i: u8, here: f64) -> bool {
-    compare::double(what, data::long(record, i), here)
-}
-
-fn channels(record: &[u32], format: u32, n: u32) -> bool {
-    let label = Format::label(format, n as usize);
-    compare::size(
-        b"channels",
-        word(record, 7) as usize,
-        Format::channels(format),
-    ) && compare::number(b"label", word(record, 8), label)
-}
-
-fn label(record: &[u32], format: u32, n: u32) -> bool {
-    compare::size(b"index", word(record, 9) as usize, Format::index(format, n))
-        && compare::yes(b"has", word(record, 10), Format::has(format, n))
-}
+use format_table::Table;
 
 // Numbers: the format, a channel or a label, the channels, the label of the channel, the channel of the label, 1 where there is one.
-pub fn labels(record: &[u32]) -> bool {
-    let format = word(record, 5);
-    let n = word(record, 6);
-    compare::accepted(record) && channels(record, format, n) && label(record, format, n)
-}
-
-fn gains(record: &[u32], answer: Result<(f64, f64), Refusal>) -> bool {
-    match answer {
-        Ok((left, right)) => compare::accepted(record)
-            && same_double(b"left gain", record, 7, left)
-            && same_double(b"right gain", record, 9, right),
-        Err(r) => compare::refused(record, r),
-    }
+pub fn labels(record: Record<'_>) -> Compared {
+    let format = record.word(5);
+    let n = record.word(6);
+    compare::never_refused(record)?;
+    compare::size(
+        "channels",
+        record.word(7) as usize,
+        Format::channels(format),
+    )?;
+    compare::number("label", record.word(8), Format::label(format, n as usize))?;
+    compare::size("index", record.word(9) as usize, Format::index(format, n))?;
+    compare::yes("has", record.word(10), Format::has(format, n))
 }
 
 // Numbers: the balance, the two gains.
-pub fn balance_gains(record: &[u32]) -> bool {
-    gains(record, format_balance::balance_gains(double(record, 5)))
-}
-
-fn balance_in(words: &[u32], record: &[u32], out: &mut [f32]) -> bool {
-    areas::load(words, record, 0, out);
-    let answer = format_balance::balance_of(word(record, 9), double(record, 10), out);
-    compare::answer(record, answer) && compare::list_left(b"gains", words, record, 1, out)
+pub fn balance_gains(record: Record<'_>) -> Compared {
+    let answer = format_balance::balance_gains(record.double(5));
+    if let Some((left, right)) = compare::accepted(record, answer)? {
+        compare::double("left gain", record.long(7), left)?;
+        compare::double("right gain", record.long(9), right)?;
+    }
+    Ok(())
 }
 
 // Areas: the gains' area, the same after. Numbers: the format, the balance.
-pub fn balance_of(words: &[u32], record: &[u32]) -> bool {
-    let mut out = areas::room::<f32>();
-    let n = length_in(record, 0, &out);
-    balance_in(words, record, &mut out[..n])
-}
-
-fn matrix(record: &[u32], gains: [f64; 4]) -> bool {
-    same_double(b"left from left", record, 9, gains[0])
-        && same_double(b"left from right", record, 11, gains[1])
-        && same_double(b"right from left", record, 13, gains[2])
-        && same_double(b"right from right", record, 15, gains[3])
+pub fn balance_of(record: Record<'_>) -> Compared {
+    let mut out = room::<f32>();
+    let out = record.lend(0, &mut out);
+    let answer = format_balance::balance_of(record.word(9), record.double(10), out);
+    compare::accepted(record, answer)?;
+    compare::left("gains", record, 1, out)
 }
 
 // Numbers: the width, the balance, the four gains.
-pub fn stereo_matrix(record: &[u32]) -> bool {
-    match format_balance::stereo_matrix(double(record, 5), double(record, 7)) {
-        Ok(gains) => compare::accepted(record) && matrix(record, gains),
-        Err(r) => compare::refused(record, r),
+pub fn stereo_matrix(record: Record<'_>) -> Compared {
+    let answer = format_balance::stereo_matrix(record.double(5), record.double(7));
+    if let Some(gains) = compare::accepted(record, answer)? {
+        compare::double("left from left", record.long(9), gains[0])?;
+        compare::double("left from right", record.long(11), gains[1])?;
+        compare::double("right from left", record.long(13), gains[2])?;
+        compare::double("right from right", record.long(15), gains[3])?;
     }
+    Ok(())
 }
 
 // The six gains among the numbers of a fold.
-pub fn gains_of(numbers: &[u32]) -> FoldGains {
+fn gains_of(numbers: &[u32]) -> FoldGains {
     FoldGains {
         pan_left: double(numbers, 3),
         pan_right: double(numbers, 5),
@@ -90,9 +65,11 @@ pub fn gains_of(numbers: &[u32]) -> FoldGains {
     }
 }
 
-fn width_in(words: &[u32], record: &[u32], out: &mut [f32]) -> bool {
-    areas::load(words, record, 0, out);
-    let numbers = data::numbers_of(record, 2);
+// Areas: the matrix's area, the same after. Numbers: the two formats, 1 for normalise, the six gains.
+pub fn width_matrix(record: Record<'_>) -> Compared {
+    let mut out = room::<f32>();
+    let out = record.lend(0, &mut out);
+    let numbers = record.numbers();
     let answer = format_fold::width_matrix(
         word(numbers, 0),
         word(numbers, 1),
@@ -100,18 +77,34 @@ fn width_in(words: &[u32], record: &[u32], out: &mut [f32]) -> bool {
         word(numbers, 2) == 1,
         out,
     );
-    compare::answer(record, answer) && compare::list_left(b"matrix", words, record, 1, out)
+    compare::accepted(record, answer)?;
+    compare::left("matrix", record, 1, out)
 }
 
-// Areas: the matrix's area, the same after. Numbers: the two formats, 1 for normalise, the six gains.
-pub fn width_matrix(words: &[u32], record: &[u32]) -> bool {
-    let mut out = areas::room::<f32>();
-    let n = length_in(record, 0, &out);
-    width_in(words, record, &mut out[..n])
+// A fold with a table. Areas: the table's pairs, its gains, the matrix's area, the same after. Numbers: those of a fold.
+pub fn width_matrix_with(record: Record<'_>) -> Compared {
+    let mut table_gains = room::<f32>();
+    let mut out = room::<f32>();
+    let out = record.lend(2, &mut out);
+    let numbers = record.numbers();
+    let answer = format_table::width_matrix_with(
+        word(numbers, 0),
+        word(numbers, 1),
+        gains_of(numbers),
+        word(numbers, 2) == 1,
+        Table {
+            pairs: record.area(0),
+            gains: record.lend(1, &mut table_gains),
+        },
+        out,
+    );
+    compare::accepted(record, answer)?;
+    compare::left("matrix", record, 3, out)
 }
 
 // Numbers: the f64, the f32's bits.
-pub fn to_f32(record: &[u32]) -> bool {
-    let x = rounding::to_f32(double(record, 5));
-    compare::accepted(record) && compare::number(b"rounded", word(record, 7), floats::bits_of(x))
+pub fn to_f32(record: Record<'_>) -> Compared {
+    let x = rounding::to_f32(record.double(5));
+    compare::never_refused(record)?;
+    compare::number("rounded", record.word(7), floats::bits_of(x))
 }

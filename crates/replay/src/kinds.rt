@@ -1,83 +1,138 @@
-// The kinds of records.
-use text::put;
+// The kinds of records, by the numbers that they have in the file.
+use std::fmt;
 
-pub const NEW: u32 = 1;
+#[derive(Clone, Copy, Debug, PartialEq, Eq)]
+pub enum Kind {
+    New = 1,
+    Buffers = 2,
+    First = 3,
+    Buffer = 4,
+    Coefficients = 5,
+    Node = 6,
+    Step = 7,
+    Insert = 8,
+    Finish = 9,
+    CheckPlan = 10,
+    SetParam = 11,
+    Process = 12,
+    Lookup = 13,
+    DirectoryBad = 14,
+    OutputSources = 15,
+    AllSources = 16,
+    CleanAnswer = 17,
+    Adopt = 18,
+    Labels = 19,
+    BalanceGains = 20,
+    BalanceOf = 21,
+    StereoMatrix = 22,
+    WidthMatrix = 23,
+    WidthMatrixWith = 24,
+    ToF32 = 25,
+}
 
-pub const BUFFERS: u32 = 2;
+// What a number that no kind has is answered with.
+#[derive(Clone, Copy, Debug, PartialEq, Eq)]
+pub struct NoKind;
 
-pub const FIRST: u32 = 3;
+impl Kind {
+    pub const ALL: [Kind; 25] = [
+        Kind::New,
+        Kind::Buffers,
+        Kind::First,
+        Kind::Buffer,
+        Kind::Coefficients,
+        Kind::Node,
+        Kind::Step,
+        Kind::Insert,
+        Kind::Finish,
+        Kind::CheckPlan,
+        Kind::SetParam,
+        Kind::Process,
+        Kind::Lookup,
+        Kind::DirectoryBad,
+        Kind::OutputSources,
+        Kind::AllSources,
+        Kind::CleanAnswer,
+        Kind::Adopt,
+        Kind::Labels,
+        Kind::BalanceGains,
+        Kind::BalanceOf,
+        Kind::StereoMatrix,
+        Kind::WidthMatrix,
+        Kind::WidthMatrixWith,
+        Kind::ToF32,
+    ];
 
-pub const BUFFER: u32 = 4;
+    // How many areas and how many numbers a record of the kind has.
+    pub fn shape(self) -> (u32, u32) {
+        match self {
+            Kind::New => (1, 2),
+            Kind::Buffers => (4, 4),
+            Kind::First => (0, 5),
+            Kind::Buffer => (2, 5),
+            Kind::Coefficients => (5, 2),
+            Kind::Node => (7, 4),
+            Kind::Step => (5, 0),
+            Kind::Insert => (12, 19),
+            Kind::Finish => (4, 0),
+            Kind::CheckPlan => (7, 0),
+            Kind::SetParam => (5, 4),
+            Kind::Process => (14, 2),
+            Kind::Lookup => (3, 2),
+            Kind::DirectoryBad => (1, 3),
+            Kind::OutputSources => (6, 2),
+            Kind::AllSources => (8, 1),
+            Kind::CleanAnswer => (4, 1),
+            Kind::Adopt => (7, 5),
+            Kind::Labels => (0, 6),
+            Kind::BalanceGains => (0, 6),
+            Kind::BalanceOf => (2, 3),
+            Kind::StereoMatrix => (0, 12),
+            Kind::WidthMatrix => (2, 15),
+            Kind::WidthMatrixWith => (4, 15),
+            Kind::ToF32 => (0, 3),
+        }
+    }
+}
 
-pub const COEFFICIENTS: u32 = 5;
+impl TryFrom<u32> for Kind {
+    type Error = NoKind;
 
-pub const NODE: u32 = 6;
+    fn try_from(number: u32) -> Result<Kind, NoKind> {
+        let found = Kind::ALL.iter().find(|kind| **kind as u32 == number);
+        found.copied().ok_or(NoKind)
+    }
+}
 
-pub const STEP: u32 = 7;
-
-pub const INSERT: u32 = 8;
-
-pub const FINISH: u32 = 9;
-
-pub const CHECK_PLAN: u32 = 10;
-
-pub const SET_PARAM: u32 = 11;
-
-pub const PROCESS: u32 = 12;
-
-pub const LOOKUP: u32 = 13;
-
-pub const DIRECTORY_BAD: u32 = 14;
-
-pub const OUTPUT_SOURCES: u32 = 15;
-
-pub const ALL_SOURCES: u32 = 16;
-
-pub const CLEAN_ANSWER: u32 = 17;
-
-pub const ADOPT: u32 = 18;
-
-pub const LABELS: u32 = 19;
-
-pub const BALANCE_GAINS: u32 = 20;
-
-pub const BALANCE_OF: u32 = 21;
-
-pub const STEREO_MATRIX: u32 = 22;
-
-pub const WIDTH_MATRIX: u32 = 23;
-
-pub const WIDTH_MATRIX_WITH: u32 = 24;
-
-pub const TO_F32: u32 = 25;
-
-// Writes the name of the call.
-pub fn name(kind: u32) {
-    match kind {
-        NEW => put(b"new"),
-        BUFFERS => put(b"buffers"),
-        FIRST => put(b"first"),
-        BUFFER => put(b"buffer"),
-        COEFFICIENTS => put(b"coefficients"),
-        NODE => put(b"node"),
-        STEP => put(b"step"),
-        INSERT => put(b"insert"),
-        FINISH => put(b"finish"),
-        CHECK_PLAN => put(b"check_plan"),
-        SET_PARAM => put(b"set_param"),
-        PROCESS => put(b"process"),
-        LOOKUP => put(b"lookup"),
-        DIRECTORY_BAD => put(b"directory_bad"),
-        OUTPUT_SOURCES => put(b"output_sources"),
-        ALL_SOURCES => put(b"all_sources"),
-        CLEAN_ANSWER => put(b"clean_answer"),
-        ADOPT => put(b"adopt"),
-        LABELS => put(b"Format"),
-        BALANCE_GAINS => put(b"balance_gains"),
-        BALANCE_OF => put(b"balance_of"),
-        STEREO_MATRIX => put(b"stereo_matrix"),
-        WIDTH_MATRIX => put(b"width_matrix"),
-        WIDTH_MATRIX_WITH => put(b"width_matrix_with"),
-        _ => put(b"to_f32"),
+// The name of the call.
+impl fmt::Display for Kind {
+    fn fmt<W: fmt::Write>(&self, f: &mut fmt::Formatter<W>) -> fmt::Result {
+        f.write_str(match self {
+            Kind::New => "new",
+            Kind::Buffers => "buffers",
+            Kind::First => "first",
+            Kind::Buffer => "buffer",
+            Kind::Coefficients => "coefficients",
+            Kind::Node => "node",
+            Kind::Step => "step",
+            Kind::Insert => "insert",
+            Kind::Finish => "finish",
+            Kind::CheckPlan => "check_plan",
+            Kind::SetParam => "set_param",
+            Kind::Process => "process",
+            Kind::Lookup => "lookup",
+            Kind::DirectoryBad => "directory_bad",
+            Kind::OutputSources => "output_sources",
+            Kind::AllSources => "all_sources",
+            Kind::CleanAnswer => "clean_answer",
+            Kind::Adopt => "adopt",
+            Kind::Labels => "Format",
+            Kind::BalanceGains => "balance_gains",
+            Kind::BalanceOf => "balance_of",
+            Kind::StereoMatrix => "stereo_matrix",
+            Kind::WidthMatrix => "width_matrix",
+            Kind::WidthMatrixWith => "width_matrix_with",
+            Kind::ToF32 => "to_f32",
+        })
     }
 }

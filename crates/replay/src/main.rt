@@ -13,7 +13,6 @@ mod inserts;
 mod kinds;
 mod records;
 mod runs;
-mod tables;
 mod traces;
 
 ghost use Rattle.std.specs.Prelude.{◌≡◌, length};
@@ -36,6 +35,7 @@ fn read_full(file: &mut File, room: &mut [u8]) -> usize
     ensures { Front result room.new }
 {
     let mut done = 0;
+    // It reads until nothing comes, and counts no index.
     while done < room.len() {
         let n = file.read(&mut room[done..]).unwrap_or(0);
         if n == 0 {
@@ -44,12 +44,6 @@ fn read_full(file: &mut File, room: &mut [u8]) -> usize
         done += n;
     }
     done
-}
-
-fn read(file: &mut File) {
-    let mut bytes = room();
-    let n = read_full(file, &mut bytes);
-    file::replay(&bytes[..n]);
 }
 
 // The file of this name, where it is text and can be read.
@@ -65,9 +59,15 @@ fn named(rt: &HostRuntime) -> Option<File> {
     opened(rt, &name[..length])
 }
 
+fn replay(rt: &HostRuntime) -> Result<(), &'static str> {
+    let mut file = named(rt).ok_or("no file that can be read is named")?;
+    let mut bytes = room();
+    let n = read_full(&mut file, &mut bytes);
+    file::replay(&bytes[..n])
+}
+
 fn main(rt: HostRuntime) {
-    match named(&rt) {
-        Some(mut file) => read(&mut file),
-        None => text::put(b"bad data: no file that can be read is named\n"),
+    if let Err(why) = replay(&rt) {
+        text::print(format_args!("bad data: {why}\n"));
     }
 }

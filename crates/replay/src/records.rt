@@ -1,142 +1,95 @@
 // The records one after the other: whether one is whole, the call of its kind, and the counts.
-use crate::areas::LONGEST;
-use crate::data::word;
-use crate::{builds, counts, data, folds, inserts, kinds, runs, tables, traces};
+use crate::compare::{Compared, Difference};
+use crate::counts::Tally;
+use crate::data::Record;
+use crate::kinds::Kind;
+use crate::{builds, folds, inserts, runs, traces};
+use std::fmt;
 
-// One more than there are kinds, since they start at 1.
-const KINDS: usize = 26;
-
-// How many areas and how many numbers a record of a kind has.
-const AREAS: [u32; KINDS] = [
-    0, 1, 4, 0, 2, 5, 7, 5, 12, 4, 7, 5, 14, 3, 1, 6, 8, 4, 7, 0, 0, 2, 0, 2, 4, 0,
-];
-
-const NUMBERS: [u32; KINDS] = [
-    0, 2, 4, 5, 5, 2, 4, 0, 19, 0, 0, 4, 2, 2, 3, 2, 1, 1, 5, 6, 6, 3, 12, 15, 15, 3,
-];
-
-// An area lies in a file of n words, and fits.
-fn area_whole(n: usize, start: u32, len: u32) -> bool {
-    (start as usize + len as usize <= n) & (len as usize <= LONGEST)
+// Where the records end before their number, from 1: at one that is not whole, or whose call differs.
+#[derive(Clone, Copy, Debug)]
+pub enum Stop {
+    NotWhole {
+        i: u32,
+    },
+    Differs {
+        i: u32,
+        kind: Kind,
+        difference: Difference,
+    },
 }
 
-// Each of the areas whose starts and lengths stand in the list.
-fn areas_whole(n: usize, list: &[u32]) -> bool {
-    list.chunks_exact(2)
-        .all(|area| area_whole(n, word(area, 0), word(area, 1)))
-}
-
-// The length of a record with so many areas and numbers.
-fn length(areas: u32, numbers: u32) -> usize {
-    data::AREAS + 2 * (areas as usize) + numbers as usize
-}
-
-// A record is of a kind that there is, has that kind's areas and numbers, and its areas lie in the file.
-fn whole(words: &[u32], record: &[u32]) -> bool {
-    let kind = word(record, 0) as usize;
-    if kind >= KINDS {
-        return false;
+impl fmt::Display for Stop {
+    fn fmt<W: fmt::Write>(&self, f: &mut fmt::Formatter<W>) -> fmt::Result {
+        match *self {
+            Stop::NotWhole { i } => write!(f, "bad data: record {i} is not whole\n"),
+            Stop::Differs {
+                i,
+                kind,
+                difference,
+            } => write!(f, "{difference}\ndifference in record {i}, {kind}\n"),
+        }
     }
-    let areas = AREAS[kind];
-    if (word(record, 4) != areas) | (record.len() != length(areas, NUMBERS[kind])) {
-        return false;
-    }
-    areas_whole(words.len(), data::areas_of(record, areas))
 }
 
-fn built(words: &[u32], record: &[u32], kind: u32) -> bool {
+// The kind of a record that is whole: of a kind that there is, with that kind's areas and numbers, and with its areas in the file.
+fn kind_of(record: Record<'_>) -> Option<Kind> {
+    let kind = Kind::try_from(record.word(0)).ok()?;
+    let (areas, numbers) = kind.shape();
+    record.fits(areas, numbers).then_some(kind)
+}
+
+// The call of a record: whether everything is what the record has. One `match` over the closed enum is plainer than a table of functions.
+fn compared(kind: Kind, record: Record<'_>) -> Compared {
     match kind {
-        kinds::NEW => builds::new(words, record),
-        kinds::BUFFERS => builds::buffers(words, record),
-        kinds::FIRST => builds::first(record),
-        kinds::BUFFER => builds::buffer(words, record),
-        kinds::COEFFICIENTS => builds::coefficients(words, record),
-        kinds::NODE => builds::node(words, record),
-        kinds::STEP => builds::step(words, record),
-        kinds::INSERT => inserts::insert(words, record),
-        kinds::FINISH => builds::finish(words, record),
-        _ => false,
+        Kind::New => builds::new(record),
+        Kind::Buffers => builds::buffers(record),
+        Kind::First => builds::first(record),
+        Kind::Buffer => builds::buffer(record),
+        Kind::Coefficients => builds::coefficients(record),
+        Kind::Node => builds::node(record),
+        Kind::Step => builds::step(record),
+        Kind::Insert => inserts::insert(record),
+        Kind::Finish => builds::finish(record),
+        Kind::CheckPlan => runs::check_plan(record),
+        Kind::SetParam => runs::set_param(record),
+        Kind::Process => runs::process(record),
+        Kind::Lookup => runs::lookup(record),
+        Kind::DirectoryBad => runs::directory_bad(record),
+        Kind::OutputSources => traces::output_sources(record),
+        Kind::AllSources => traces::all_sources(record),
+        Kind::CleanAnswer => traces::clean_answer(record),
+        Kind::Adopt => runs::adopt(record),
+        Kind::Labels => folds::labels(record),
+        Kind::BalanceGains => folds::balance_gains(record),
+        Kind::BalanceOf => folds::balance_of(record),
+        Kind::StereoMatrix => folds::stereo_matrix(record),
+        Kind::WidthMatrix => folds::width_matrix(record),
+        Kind::WidthMatrixWith => folds::width_matrix_with(record),
+        Kind::ToF32 => folds::to_f32(record),
     }
-}
-
-fn ran(words: &[u32], record: &[u32], kind: u32) -> bool {
-    match kind {
-        kinds::CHECK_PLAN => runs::on_plan(words, record),
-        kinds::SET_PARAM => runs::set_param(words, record),
-        kinds::PROCESS => runs::on_plan(words, record),
-        kinds::LOOKUP => runs::lookup(words, record),
-        kinds::DIRECTORY_BAD => runs::directory_bad(words, record),
-        kinds::OUTPUT_SOURCES => traces::output_sources(words, record),
-        kinds::ALL_SOURCES => traces::all_sources(words, record),
-        kinds::CLEAN_ANSWER => traces::clean_answer(words, record),
-        kinds::ADOPT => runs::adopt(words, record),
-        _ => false,
-    }
-}
-
-fn folded(words: &[u32], record: &[u32], kind: u32) -> bool {
-    match kind {
-        kinds::LABELS => folds::labels(record),
-        kinds::BALANCE_GAINS => folds::balance_gains(record),
-        kinds::BALANCE_OF => folds::balance_of(words, record),
-        kinds::STEREO_MATRIX => folds::stereo_matrix(record),
-        kinds::WIDTH_MATRIX => folds::width_matrix(words, record),
-        kinds::WIDTH_MATRIX_WITH => tables::width_matrix_with(words, record),
-        kinds::TO_F32 => folds::to_f32(record),
-        _ => false,
-    }
-}
-
-// The call of a record: whether everything is what the record has. Else the difference is on the standard output.
-fn same(words: &[u32], record: &[u32]) -> bool {
-    let kind = word(record, 0);
-    if kind <= kinds::FINISH {
-        return built(words, record, kind);
-    }
-    if kind <= kinds::ADOPT {
-        return ran(words, record, kind);
-    }
-    folded(words, record, kind)
-}
-
-fn not_whole(i: u32) {
-    text::put(b"bad data: record ");
-    text::whole(i as u64);
-    text::put(b" is not whole\n");
-}
-
-// Behind the difference that the comparison has written.
-fn differs(record: &[u32], i: u32) {
-    text::put(b"\ndifference in record ");
-    text::whole(i as u64);
-    text::put(b", ");
-    kinds::name(word(record, 0));
-    text::put(b"\n");
 }
 
 // Record i, from 1.
-fn one(words: &[u32], record: &[u32], i: u32) -> bool {
-    if !whole(words, record) {
-        not_whole(i);
-        return false;
-    }
-    if !same(words, record) {
-        differs(record, i);
-        return false;
-    }
-    true
+fn one(record: Record<'_>, i: u32) -> Result<Kind, Stop> {
+    let kind = kind_of(record).ok_or(Stop::NotWhole { i })?;
+    compared(kind, record).map_err(|difference| Stop::Differs {
+        i,
+        kind,
+        difference,
+    })?;
+    Ok(kind)
 }
 
 // All n records, from a word of the file on, up to the first one that differs.
-pub fn all(words: &[u32], start: usize, n: u32, tally: &mut [u64]) -> bool {
+// A record begins where the one before it ends: hence its place beside the count.
+pub fn all(file: &[u32], start: usize, n: u32, tally: &mut Tally) -> Result<(), Stop> {
     let mut at = start;
     for i in 0..n {
-        let record = data::record(words, at);
-        if !one(words, record, i + 1) {
-            return false;
-        }
-        counts::record(record, tally);
-        at = std::num::wrapping_add_usize(at, record.len());
+        let record = Record::at(file, at);
+        let kind = one(record, i + 1)?;
+        tally.count(kind, record);
+        at = at.wrapping_add(record.len());
     }
-    true
+    Ok(())
 }

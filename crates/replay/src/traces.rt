@@ -1,90 +1,53 @@
 // Records of the trace and the clean answer.
-use crate::builds::plan_in;
-use crate::data::{area, length_in, word};
-use crate::{areas, compare};
-use refusal::Refusal;
-
-// The answer of a trace, of one slot or of all; its count is word i of the record.
-fn listed(record: &[u32], i: u8, answer: Result<u32, Refusal>) -> bool {
-    match answer {
-        Ok(n) => compare::accepted(record)
-            && compare::number(b"count", word(record, i as usize), n),
-        Err(r) => compare::refused(record, r),
-    }
-}
-
-fn sources(words: &[u32], record: &[u32], list: &mut [u16]) -> bool {
-    let plan = plan_in(words, record, 0);
-    let indices = area(words, record, 1);
-    let node_words = area(words, record, 2);
-    let steps = area(words, record, 3);
-    let answer = trace_calls::output_sources(
-        plan,
-        word(record, 17),
-        indices,
-        node_words,
-        steps,
-        list,
-    );
-    listed(record, 18, answer) && compare::list_left(b"source list", words, record, 5, list)
-}
-
-fn sources_in(words: &[u32], record: &[u32], list: &mut [u16]) -> bool {
-    areas::load(words, record, 4, list);
-    sources(words, record, list)
-}
+use crate::areas::room;
+use crate::compare::{self, Compared};
+use crate::data::Record;
 
 // Areas: the record, the index list, the node words, the step words, the list's area, the same after. Numbers: the slot, how many are listed.
-pub fn output_sources(words: &[u32], record: &[u32]) -> bool {
-    let mut list = areas::room::<u16>();
-    let n = length_in(record, 4, &list);
-    sources_in(words, record, &mut list[..n])
-}
-
-fn all(words: &[u32], record: &[u32], counts: &mut [u32], lists: &mut [u16]) -> bool {
-    let plan = plan_in(words, record, 0);
-    let indices = area(words, record, 1);
-    let node_words = area(words, record, 2);
-    let steps = area(words, record, 3);
-    let answer = trace_calls::all_sources(plan, indices, node_words, steps, counts, lists);
-    listed(record, 21, answer)
-        && compare::list_left(b"counts", words, record, 6, counts)
-        && compare::list_left(b"source lists", words, record, 7, lists)
-}
-
-fn all_in(words: &[u32], record: &[u32], counts: &mut [u32], lists: &mut [u16]) -> bool {
-    areas::load(words, record, 4, counts);
-    areas::load(words, record, 5, lists);
-    all(words, record, counts, lists)
+pub fn output_sources(record: Record<'_>) -> Compared {
+    let mut list = room::<u16>();
+    let list = record.lend(4, &mut list);
+    let answer = trace_calls::output_sources(
+        record.plan(0),
+        record.word(17),
+        record.area(1),
+        record.area(2),
+        record.area(3),
+        list,
+    );
+    compare::numbered("count", record, 18, answer)?;
+    compare::left("source list", record, 5, list)
 }
 
 // Areas: the record, the index list, the node words, the step words, the counts' and the lists' area, both after. Numbers: how many slots are listed.
-pub fn all_sources(words: &[u32], record: &[u32]) -> bool {
-    let mut counts = areas::room::<u32>();
-    let mut lists = areas::room::<u16>();
-    let n = length_in(record, 4, &counts);
-    let m = length_in(record, 5, &lists);
-    all_in(words, record, &mut counts[..n], &mut lists[..m])
-}
-
-fn clean(record: &[u32], answer: Result<bool, Refusal>) -> bool {
-    match answer {
-        Ok(yes) => compare::accepted(record)
-            && compare::yes(b"clean answer", word(record, 13), yes),
-        Err(r) => compare::refused(record, r),
-    }
+pub fn all_sources(record: Record<'_>) -> Compared {
+    let mut counts = room::<u32>();
+    let mut lists = room::<u16>();
+    let counts = record.lend(4, &mut counts);
+    let lists = record.lend(5, &mut lists);
+    let answer = trace_calls::all_sources(
+        record.plan(0),
+        record.area(1),
+        record.area(2),
+        record.area(3),
+        counts,
+        lists,
+    );
+    compare::numbered("count", record, 21, answer)?;
+    compare::left("counts", record, 6, counts)?;
+    compare::left("source lists", record, 7, lists)
 }
 
 // Areas: the record, the index list, the node words, the step words. Numbers: 1 where it is clean.
-pub fn clean_answer(words: &[u32], record: &[u32]) -> bool {
-    let plan = plan_in(words, record, 0);
-    clean(
-        record,
-        trace_calls::clean_answer(
-            plan,
-            area(words, record, 1),
-            area(words, record, 2),
-            area(words, record, 3),
-        ),
-    )
+pub fn clean_answer(record: Record<'_>) -> Compared {
+    let answer = trace_calls::clean_answer(
+        record.plan(0),
+        record.area(1),
+        record.area(2),
+        record.area(3),
+    );
+    match compare::accepted(record, answer)? {
+        Some(clean) => compare::yes("clean answer", record.word(13), clean),
+        None => Ok(()),
+    }
 }

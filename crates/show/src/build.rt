@@ -1,46 +1,35 @@
 // The layout's tables as a plan, in the order of the signal: strips, buses, sends, folds, outputs.
+use crate::areas::Areas;
 use crate::{buses, strips};
-use desk::draft;
-use desk::draft::Draft;
+use builder_calls::PlanBuilder;
+use builder_calls::areas::PlanAreas;
+use desk::draft::{Draft, Lines};
+use refusal::{Answer, Refusal};
 
-// The strips, and the buses that they are sent to.
-fn lines(
-    draft: Draft,
-    indices: &mut [u32],
-    coefficients: &mut [f32],
-    floats: &mut [f32],
-    words: &mut [u32],
-    steps: &mut [u32],
-) -> Draft {
-    let draft = strips::all(draft, indices, coefficients, floats, words, steps);
-    buses::all(draft, indices, steps)
+fn lay_out(draft: &mut Draft<'_>) -> Answer {
+    strips::all(draft)?;
+    buses::all(draft)?;
+    buses::sends(draft)?;
+    buses::folds(draft)?;
+    buses::outputs(draft)
 }
 
-// What goes from line to line.
-fn routes(
-    draft: Draft,
-    indices: &mut [u32],
-    coefficients: &mut [f32],
-    floats: &mut [f32],
-    words: &mut [u32],
-    steps: &mut [u32],
-) -> Draft {
-    let draft = buses::sends(draft, coefficients, floats, words, steps);
-    buses::folds(draft, indices, floats, words, steps)
-}
-
-// The whole layout in the lent areas, ready to run.
-pub fn laid_out(
-    indices: &mut [u32],
-    coefficients: &mut [f32],
-    floats: &mut [f32],
-    words: &mut [u32],
-    steps: &mut [u32],
-    buffers: &mut [f32],
-) -> Draft {
-    let draft = draft::new(signals::BLOCK);
-    let draft = lines(draft, indices, coefficients, floats, words, steps);
-    let draft = routes(draft, indices, coefficients, floats, words, steps);
-    let draft = buses::outputs(draft, steps);
-    draft::finish(draft, buffers)
+// The whole layout, ready to run.
+pub fn laid_out() -> Result<Areas, Refusal> {
+    let builder = PlanBuilder::new(signals::BLOCK)?;
+    let mut laid = Areas::of(builder.plan);
+    let areas = PlanAreas {
+        builder,
+        indices: &mut laid.indices,
+        coefficients: &mut laid.coefficients,
+        floats: &mut laid.floats,
+        words: &mut laid.words,
+        steps: &mut laid.steps,
+    };
+    let lines = Lines::new();
+    let mut draft = Draft { areas, lines };
+    lay_out(&mut draft)?;
+    draft.finish(&mut laid.buffers)?;
+    laid.plan = draft.areas.builder.plan;
+    Ok(laid)
 }

@@ -1,35 +1,36 @@
 // The buses: those that are made of sends, those that are folds of others, and the output of each.
 ghost use Rattle.std.specs.Prelude.{◌≤◌};
 
-use crate::layout::{Send, Slot};
+use crate::layout::{Send, Slot, Source};
 use crate::{layout, steps};
+use builder_calls::areas::PlanAreas;
 use desk::draft::Draft;
 use desk::{draft, gains};
 use format::Format;
-use plan::Step;
+use plan::{Span, Step};
+use refusal::{Answer, Refusal};
 
 // The most entries that a fold has.
 const ENTRIES: usize = Format::MAX_CHANNELS * Format::MAX_CHANNELS;
 
 // A bus of sends: buffers of silence, to which each of them adds.
-fn cleared(draft: Draft, slot: usize, indices: &mut [u32], steps: &mut [u32]) -> Draft {
-    let Slot(format, from, _) = layout::slot_at(slot);
-    if from != layout::OF_SENDS {
-        return draft;
-    }
-    let draft = draft::buffers(draft, Format::channels(format), indices);
-    let dst = draft.span;
-    let draft = draft::step(draft, &[Step::CLEAR_MAP, dst.start, dst.len], steps);
-    draft::with_line(draft, layout::bus(slot), dst)
+fn cleared(draft: &mut Draft<'_>, slot: usize) -> Answer {
+    let Slot(format, Source::Sends) = layout::slot_at(slot) else {
+        return Ok(());
+    };
+    let dst = draft.areas.buffers(Format::channels(format))?;
+    draft.areas.step(&[Step::CLEAR_MAP, dst.start, dst.len])?;
+    draft.lines.set(layout::bus(slot), dst);
+    Ok(())
 }
 
 // The buses of sends, before any send.
-pub fn all(draft: Draft, indices: &mut [u32], steps: &mut [u32]) -> Draft {
-    let mut draft = draft;
+// Here and below the number is what is handed on: no list is walked.
+pub fn all(draft: &mut Draft<'_>) -> Answer {
     for slot in 0..layout::BUSES {
-        draft = cleared(draft, slot, indices, steps);
+        cleared(draft, slot)?;
     }
-    draft
+    Ok(())
 }
 
 // How many gains a fold has.
@@ -39,121 +40,76 @@ fn entry_count(src: u32, dst: u32) -> usize
     Format::channels(dst) * Format::channels(src)
 }
 
-// The weights of a send, from one line's format to another's: the draft's span.
-fn weights(draft: Draft, from: usize, to: usize, coefficients: &mut [f32]) -> Draft {
+// The weights of a send, from one line's format to another's.
+fn weights(areas: &mut PlanAreas<'_>, from: usize, to: usize) -> Result<Span, Refusal> {
     let src = layout::line_format(from);
     let dst = layout::line_format(to);
     let mut entries = [0.0f32; ENTRIES];
-    let answer = gains::folded(src, dst, &mut entries);
-    let draft = draft::asked(draft, answer);
+    gains::folded(src, dst, &mut entries)?;
     let n = entry_count(src, dst);
-    draft::coefficients(draft, &entries[..n], coefficients)
+    areas.coefficients(&entries[..n])
 }
 
 // A line into a bus.
-fn send(
-    draft: Draft,
-    i: usize,
-    coefficients: &mut [f32],
-    floats: &mut [f32],
-    words: &mut [u32],
-    steps: &mut [u32],
-) -> Draft {
-    let Send(id, line, slot, gain) = layout::send_at(i);
+fn send(draft: &mut Draft<'_>, send: Send) -> Answer {
+    let Send(id, line, slot, gain) = send;
     let to = layout::bus(slot);
-    let src = draft::line_of(draft, line);
-    let dst = draft::line_of(draft, to);
-    let draft = weights(draft, line, to, coefficients);
-    let w = draft.span;
-    let draft = draft::node(draft, id, &[gain], draft::FADE, 0, floats, words);
-    let node = draft.node;
-    draft::step(
-        draft,
-        &[
-            Step::SEND_MAP,
-            node,
-            src.start,
-            src.len,
-            dst.start,
-            dst.len,
-            w.start,
-            w.len,
-        ],
-        steps,
-    )
+    let src = draft.lines.get(line);
+    let dst = draft.lines.get(to);
+    let w = weights(&mut draft.areas, line, to)?;
+    let node = draft.areas.node(id, &[gain], draft::FADE, 0)?;
+    draft.areas.step(&[
+        Step::SEND_MAP,
+        node,
+        src.start,
+        src.len,
+        dst.start,
+        dst.len,
+        w.start,
+        w.len,
+    ])
 }
 
-pub fn sends(
-    draft: Draft,
-    coefficients: &mut [f32],
-    floats: &mut [f32],
-    words: &mut [u32],
-    steps: &mut [u32],
-) -> Draft {
-    let mut draft = draft;
-    for i in 0..layout::SENDS {
-        draft = send(draft, i, coefficients, floats, words, steps);
+pub fn sends(draft: &mut Draft<'_>) -> Answer {
+    for &row in &layout::SEND_TABLE {
+        send(draft, row)?;
     }
-    draft
+    Ok(())
 }
 
 // A bus that is the fold of another: a Matrix with the gains from that one's format to its own.
-fn folded(
-    draft: Draft,
-    slot: usize,
-    indices: &mut [u32],
-    floats: &mut [f32],
-    words: &mut [u32],
-    steps: &mut [u32],
-) -> Draft {
-    let Slot(format, from, id) = layout::slot_at(slot);
-    if from == layout::OF_SENDS {
-        return draft;
-    }
-    let src = layout::line_format(layout::bus(from));
+fn folded(draft: &mut Draft<'_>, slot: usize) -> Answer {
+    let Slot(format, Source::Fold(from, id)) = layout::slot_at(slot) else {
+        return Ok(());
+    };
+    let from = layout::bus(from);
+    let src = layout::line_format(from);
     let mut entries = [0.0f32; ENTRIES];
-    let answer = gains::folded(src, format, &mut entries);
-    let draft = draft::asked(draft, answer);
-    let draft = draft::from_line(draft, layout::bus(from));
+    gains::folded(src, format, &mut entries)?;
     let n = entry_count(src, format);
-    let draft = steps::matrix(
-        draft,
-        id,
-        Format::channels(format),
-        &entries[..n],
-        indices,
-        floats,
-        words,
-        steps,
-    );
-    draft::with_line(draft, layout::bus(slot), draft.span)
+    let line = draft.lines.get(from);
+    let rows = Format::channels(format);
+    let span = steps::matrix(&mut draft.areas, id, rows, &entries[..n], line)?;
+    draft.lines.set(layout::bus(slot), span);
+    Ok(())
 }
 
-pub fn folds(
-    draft: Draft,
-    indices: &mut [u32],
-    floats: &mut [f32],
-    words: &mut [u32],
-    steps: &mut [u32],
-) -> Draft {
-    let mut draft = draft;
+// A loop of its own, behind the sends: one that takes what it does to each as a closure is no shorter than the three.
+pub fn folds(draft: &mut Draft<'_>) -> Answer {
     for slot in 0..layout::BUSES {
-        draft = folded(draft, slot, indices, floats, words, steps);
+        folded(draft, slot)?;
     }
-    draft
+    Ok(())
 }
 
 // The Outputs behind the insert's.
-pub fn outputs(draft: Draft, steps: &mut [u32]) -> Draft {
-    let mut draft = draft;
+pub fn outputs(draft: &mut Draft<'_>) -> Answer {
     for i in 1..layout::SLOTS {
         let slot = layout::output_slot(i);
-        let src = draft::line_of(draft, layout::output_line(slot));
-        draft = draft::step(
-            draft,
-            &[Step::OUTPUT_MAP, src.start, src.len, slot as u32],
-            steps,
-        );
+        let src = draft.lines.get(layout::output_line(slot));
+        draft
+            .areas
+            .step(&[Step::OUTPUT_MAP, src.start, src.len, slot as u32])?;
     }
-    draft
+    Ok(())
 }

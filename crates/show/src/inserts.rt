@@ -5,6 +5,7 @@ use desk::draft::Draft;
 use format::Format;
 use insert::{InsertIds, InsertPoint, InsertReturn};
 use plan::Span;
+use refusal::Refusal;
 
 // That of the band's input.
 const FORMAT: u32 = Format::STEREO;
@@ -45,44 +46,29 @@ fn point(src: Span) -> InsertPoint {
     }
 }
 
-// The insert on the draft's span, where the strip is the band's.
-pub fn made(
-    draft: Draft,
-    line: usize,
-    indices: &mut [u32],
-    coefficients: &mut [f32],
-    floats: &mut [f32],
-    words: &mut [u32],
-    steps: &mut [u32],
-) -> Draft {
+// The insert on these buffers, where the strip is the band's: the buffers that the strip goes on with.
+pub fn made(draft: &mut Draft<'_>, line: usize, src: Span) -> Result<Span, Refusal> {
     if line != layout::BAND {
-        return draft;
+        return Ok(src);
     }
-    let point = point(draft.span);
-    draft::insert(draft, point, indices, coefficients, floats, words, steps)
+    draft.insert(point(src))
 }
 
 // The input that comes back, in the list of inputs.
 pub fn input() {
-    text::right(layout::BAND_RETURN as u64, 6);
-    text::put(b"  ");
-    text::left(b"band return", 14);
-    names::format(FORMAT, 0);
-    text::put(b", to the insert on band\n");
+    let input = layout::BAND_RETURN;
+    let format = names::format(FORMAT);
+    text::print(format_args!("{input:>6}  band return   {format}, to the insert on band\n"));
 }
 
 // The insert in words.
 pub fn told() {
-    text::put(b"\nInsert\n        ");
-    names::strip(layout::BAND, 14);
-    names::format(FORMAT, 8);
-    text::put(b"send to slot ");
-    text::whole(layout::BAND_SEND as u64);
-    text::put(b", return from input ");
-    text::whole(layout::BAND_RETURN as u64);
-    if back().bypass {
-        text::put(b", bypass: yes\n");
-        return;
-    }
-    text::put(b", bypass: no\n");
+    text::print(format_args!(
+        "\nInsert\n        {:<14}{:<8}send to slot {}, return from input {}, bypass: {}\n",
+        names::strip(layout::BAND),
+        names::format(FORMAT),
+        layout::BAND_SEND,
+        layout::BAND_RETURN,
+        names::yes(back().bypass)
+    ));
 }

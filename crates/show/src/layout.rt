@@ -53,18 +53,11 @@ pub const BAND_SEND: usize = 9;
 
 pub const VOICE_ALARM: usize = 10;
 
-// The input that comes back to the band's insert.
+// The input that comes back to the band's insert: a number of an input, and of no kind.
 pub const BAND_RETURN: u32 = 70;
 
-// Where a bus is made of sends, and is no fold of another slot's bus.
-pub const OF_SENDS: usize = SLOTS;
-
-// Where a slot has no bus: the insert writes it, or the announcement's strip.
-pub const OF_INSERT: usize = SLOTS + 1;
-
-pub const OF_ANNOUNCEMENT: usize = SLOTS + 2;
-
-// The ids of the nodes that settings change: four levels, the singer's panner, the band's width, the dry signal and the return of its insert.
+// The ids of the nodes that settings change, numbers that the layout's writer chooses, and of no kind: four levels, the singer's panner, the band's
+// width, the dry signal and the return of its insert.
 pub const NARRATOR_LEVEL: u32 = 100;
 
 pub const ANNOUNCEMENT_LEVEL: u32 = 106;
@@ -107,16 +100,25 @@ pub struct Strip(
     pub u32,
 );
 
-// The format of a slot's bus, the slot whose bus it folds, the id of the fold's gains.
+// What a slot carries: a bus of sends; the fold of another slot's bus, with the id of the fold's gains; what the insert sends; the announcement's strip.
 #[derive(Clone, Copy)]
-pub struct Slot(pub u32, pub usize, pub u32);
+pub enum Source {
+    Sends,
+    Fold(usize, u32),
+    Insert,
+    Announcement,
+}
+
+// The format of a slot, and what it carries.
+#[derive(Clone, Copy)]
+pub struct Slot(pub u32, pub Source);
 
 // The id of its level, the line that is sent, the slot whose bus takes it, the level.
 #[derive(Clone, Copy)]
 pub struct Send(pub u32, pub usize, pub usize, pub f32);
 
 // The emergency announcement is spoken into the talkback's microphone. Its level is there at once, at its own value, in a new layout too: it is safe.
-const STRIP_TABLE: [Strip; STRIPS] = [
+pub const STRIP_TABLE: [Strip; STRIPS] = [
     Strip(NARRATOR_LEVEL, 3, Format::MONO, Format::MONO, 1.0, FADE, 0),
     Strip(101, 4, Format::MONO, Format::STEREO, 0.75, FADE, 0),
     Strip(102, 10, Format::STEREO, Format::STEREO, 0.5, FADE, 0),
@@ -142,22 +144,22 @@ const STRIP_TABLE: [Strip; STRIPS] = [
     ),
 ];
 
-const SLOT_TABLE: [Slot; SLOTS] = [
-    Slot(Format::SURROUND_51, OF_SENDS, 0),
-    Slot(Format::STEREO, HALL, 301),
-    Slot(Format::MONO, BALCONY, 302),
-    Slot(Format::STEREO, OF_SENDS, 0),
-    Slot(Format::MONO, OF_SENDS, 0),
-    Slot(Format::MONO, OF_SENDS, 0),
-    Slot(Format::STEREO, OF_SENDS, 0),
-    Slot(Format::MONO, OF_SENDS, 0),
-    Slot(Format::LCR, OF_SENDS, 0),
-    Slot(Format::STEREO, OF_INSERT, 0),
-    Slot(Format::MONO, OF_ANNOUNCEMENT, 0),
+pub const SLOT_TABLE: [Slot; SLOTS] = [
+    Slot(Format::SURROUND_51, Source::Sends),
+    Slot(Format::STEREO, Source::Fold(HALL, 301)),
+    Slot(Format::MONO, Source::Fold(BALCONY, 302)),
+    Slot(Format::STEREO, Source::Sends),
+    Slot(Format::MONO, Source::Sends),
+    Slot(Format::MONO, Source::Sends),
+    Slot(Format::STEREO, Source::Sends),
+    Slot(Format::MONO, Source::Sends),
+    Slot(Format::LCR, Source::Sends),
+    Slot(Format::STEREO, Source::Insert),
+    Slot(Format::MONO, Source::Announcement),
 ];
 
 // The talkback is closed in the hall until a setting opens it. The cue sheet lists it all the same.
-const SEND_TABLE: [Send; SENDS] = [
+pub const SEND_TABLE: [Send; SENDS] = [
     Send(200, NARRATOR, HALL, 1.0),
     Send(201, SINGER, HALL, 0.75),
     Send(202, BAND, HALL, 0.5),
@@ -200,10 +202,6 @@ pub fn strip_at(i: usize) -> Strip {
 
 pub fn slot_at(i: usize) -> Slot {
     SLOT_TABLE[row(i, SLOTS)]
-}
-
-pub fn send_at(i: usize) -> Send {
-    SEND_TABLE[row(i, SENDS)]
 }
 
 // The slot of the plan's Output i: the insert's, those of the buses, the announcement's.

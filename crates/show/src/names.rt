@@ -1,40 +1,45 @@
-// Names in columns.
+// Names.
 use crate::layout;
 use format::Format;
 
-pub fn format(number: u32, width: usize) {
+pub fn format(number: u32) -> &'static str {
     match number {
-        Format::MONO => text::left(b"mono", width),
-        Format::STEREO => text::left(b"stereo", width),
-        Format::LCR => text::left(b"3.0", width),
-        _ => text::left(b"5.1", width),
+        Format::MONO => "mono",
+        Format::STEREO => "stereo",
+        Format::LCR => "3.0",
+        _ => "5.1",
     }
 }
 
-pub fn strip(line: usize, width: usize) {
+pub fn strip(line: usize) -> &'static str {
     match line {
-        layout::NARRATOR => text::left(b"narrator", width),
-        layout::SINGER => text::left(b"singer", width),
-        layout::BAND => text::left(b"band", width),
-        layout::FILM => text::left(b"film", width),
-        layout::EFFECTS => text::left(b"effects", width),
-        layout::TALKBACK => text::left(b"talkback", width),
-        _ => text::left(b"announcement", width),
+        layout::NARRATOR => "narrator",
+        layout::SINGER => "singer",
+        layout::BAND => "band",
+        layout::FILM => "film",
+        layout::EFFECTS => "effects",
+        layout::TALKBACK => "talkback",
+        _ => "announcement",
     }
 }
 
-pub fn slot(number: usize, width: usize) {
+pub fn slot(number: usize) -> &'static str {
     match number {
-        layout::HALL => text::left(b"hall", width),
-        layout::BALCONY => text::left(b"balcony", width),
-        layout::FOYER => text::left(b"foyer", width),
-        layout::STAGE => text::left(b"stage", width),
-        layout::PIT => text::left(b"pit", width),
-        layout::LOOP => text::left(b"hearing loop", width),
-        layout::RECORDING => text::left(b"recording", width),
-        layout::CREW => text::left(b"crew", width),
-        layout::LOUNGE => text::left(b"lounge", width),
-        layout::BAND_SEND => text::left(b"band send", width),
-        _ => text::left(b"voice alarm", width),
+        layout::HALL => "hall",
+        layout::BALCONY => "balcony",
+        layout::FOYER => "foyer",
+        layout::STAGE => "stage",
+        layout::PIT => "pit",
+        layout::LOOP => "hearing loop",
+        layout::RECORDING => "recording",
+        layout::CREW => "crew",
+        layout::LOUNGE => "lounge",
+        layout::BAND_SEND => "band send",
+        _ => "voice alarm",
     }
+}
+
+// Whether something is so.
+pub fn yes(so: bool) -> &'static str {
+    if so { "yes" } else { "no" }
 }

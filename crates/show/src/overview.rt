@@ -1,68 +1,72 @@
 // The layout in words, from its tables.
-use crate::layout::{Send, Slot, Strip};
+use crate::layout::{Send, Slot, Source, Strip};
 use crate::{inserts, layout, names};
 use plan::Plan;
+use std::fmt;
+use std::fmt::{Display, Formatter, Write};
 
-fn input(line: usize) {
-    let Strip(_, input, format, _, _, _, _) = layout::strip_at(line);
-    text::right(input as u64, 6);
-    text::put(b"  ");
-    names::strip(line, 14);
-    names::format(format, 0);
-    match line {
-        layout::SINGER => text::put(b", with a panner"),
-        layout::BAND => text::put(b", with an insert and a width"),
-        layout::ANNOUNCEMENT => text::put(b", with no fade, and safe in an adoption"),
-        _ => {}
-    }
-    text::put(b"\n");
+fn input(line: usize, strip: Strip) {
+    let Strip(_, input, format, _, _, _, _) = strip;
+    let name = names::strip(line);
+    let format = names::format(format);
+    let with = match line {
+        layout::SINGER => ", with a panner",
+        layout::BAND => ", with an insert and a width",
+        layout::ANNOUNCEMENT => ", with no fade, and safe in an adoption",
+        _ => "",
+    };
+    text::print(format_args!("{input:>6}  {name:<14}{format}{with}\n"));
 }
 
 fn inputs() {
-    text::put(b"\nInputs\n");
-    for line in 0..layout::STRIPS {
-        input(line);
+    text::print("\nInputs\n");
+    for (line, &strip) in layout::STRIP_TABLE.iter().enumerate() {
+        input(line, strip);
     }
 }
 
-// Send i, where it is one to the slot.
-fn sent(slot: usize, i: usize) {
-    let Send(_, line, to, _) = layout::send_at(i);
-    if to == slot {
-        text::put(b" ");
-        names::strip(line, 0);
+// The names of the lines that are sent to a slot.
+#[derive(Clone, Copy)]
+struct Senders(usize);
+
+impl Display for Senders {
+    fn fmt<W: Write>(&self, f: &mut Formatter<W>) -> fmt::Result {
+        for &Send(_, line, to, _) in &layout::SEND_TABLE {
+            if to == self.0 {
+                write!(f, " {}", names::strip(line))?;
+            }
+        }
+        Ok(())
     }
 }
 
-fn sends(slot: usize) {
-    text::put(b"mix of");
-    for i in 0..layout::SENDS {
-        sent(slot, i);
-    }
-}
+// What a slot with its source is made of.
+#[derive(Clone, Copy)]
+struct Made(usize, Source);
 
-fn output(slot: usize) {
-    let Slot(format, from, _) = layout::slot_at(slot);
-    text::right(slot as u64, 6);
-    text::put(b"  ");
-    names::slot(slot, 14);
-    names::format(format, 8);
-    match from {
-        layout::OF_SENDS => sends(slot),
-        layout::OF_INSERT => text::put(b"send of the insert on band"),
-        layout::OF_ANNOUNCEMENT => text::put(b"announcement alone"),
-        _ => {
-            text::put(b"fold of ");
-            names::slot(from, 0);
+impl Display for Made {
+    fn fmt<W: Write>(&self, f: &mut Formatter<W>) -> fmt::Result {
+        match self.1 {
+            Source::Sends => write!(f, "mix of{}", Senders(self.0)),
+            Source::Fold(slot, _) => write!(f, "fold of {}", names::slot(slot)),
+            Source::Insert => f.write_str("send of the insert on band"),
+            Source::Announcement => f.write_str("announcement alone"),
         }
     }
-    text::put(b"\n");
+}
+
+fn output(number: usize, slot: Slot) {
+    let Slot(format, source) = slot;
+    let name = names::slot(number);
+    let format = names::format(format);
+    let made = Made(number, source);
+    text::print(format_args!("{number:>6}  {name:<14}{format:<8}{made}\n"));
 }
 
 fn outputs() {
-    text::put(b"\nOutputs, by slot\n");
-    for slot in 0..layout::SLOTS {
-        output(slot);
+    text::print("\nOutputs, by slot\n");
+    for (number, &slot) in layout::SLOT_TABLE.iter().enumerate() {
+        output(number, slot);
     }
 }
 
@@ -73,22 +77,20 @@ pub fn tables() {
     inserts::told();
 }
 
-pub fn counts(plan: Plan) {
-    text::put(b"\nPlan: ");
-    text::whole(plan.buffers as u64);
-    text::put(b" buffers, ");
-    text::whole(plan.coefficients as u64);
-    text::put(b" coefficients, ");
-    text::whole(plan.nodes as u64);
-    text::put(b" nodes, ");
-    text::whole(plan.steps as u64);
-    text::put(b" steps of ");
-    text::whole(plan.words as u64);
-    text::put(b" words");
+pub fn counts(plan: Plan, clean: bool) {
+    text::print(format_args!(
+        "\nPlan: {} buffers, {} coefficients, {} nodes, {} steps of {} words; clean: {}\n",
+        plan.buffers,
+        plan.coefficients,
+        plan.nodes,
+        plan.steps,
+        plan.words,
+        names::yes(clean)
+    ));
 }
 
 // The head of the run, and what its first block begins with.
 pub fn run() {
-    text::put(b"\nRun: 750 blocks of 256 samples, four seconds at 48,000 a second\n");
-    text::put(b"       0  every level but the announcement's fades in over 4,800 samples\n");
+    text::print("\nRun: 750 blocks of 256 samples, four seconds at 48,000 a second\n");
+    text::print("       0  every level but the announcement's fades in over 4,800 samples\n");
 }

@@ -1,5 +1,5 @@
 // A stand-in for the narrator's microphone. Its samples are lent in every block; from one block on its entry stands at the directory's end.
-use crate::settings;
+use crate::names;
 use signals::{BLOCK, digest, inputs};
 
 // The sample that its first block starts at.
@@ -13,15 +13,6 @@ pub fn directory_at(from: u32, directory: &[u32; inputs::DIRECTORY]) -> &[u32] {
     directory
 }
 
-// Behind its first block, whether it is heard in it.
-fn told(from: u32, heard: bool) {
-    settings::line(
-        from as usize,
-        b"a stand-in for the narrator appended to the directory; heard: ",
-    );
-    settings::ends(heard);
-}
-
 // Its line behind its first block, and one behind each later block in which it is not heard. It is heard where the narrator's buffer, the first
 // of the plan, has its samples, the last of those lent.
 pub fn line(from: u32, samples: &[f32; inputs::SAMPLES], buffers: &[f32]) {
@@ -32,12 +23,15 @@ pub fn line(from: u32, samples: &[f32; inputs::SAMPLES], buffers: &[f32]) {
         return;
     }
     let played = digest::of_samples(digest::empty(), &samples[inputs::SAMPLES - BLOCK..]);
-    let heard = digest::of_samples(digest::empty(), &buffers[0..BLOCK]);
+    let buffer = digest::of_samples(digest::empty(), &buffers[0..BLOCK]);
     if from == AT {
-        told(from, played == heard);
+        let heard = names::yes(played == buffer);
+        text::print(format_args!(
+            "{from:>8}  a stand-in for the narrator appended to the directory; heard: {heard}\n"
+        ));
         return;
     }
-    if played != heard {
-        settings::line(from as usize, b"the stand-in is not heard\n");
+    if played != buffer {
+        text::print(format_args!("{from:>8}  the stand-in is not heard\n"));
     }
 }

@@ -1,104 +1,63 @@
-// Steps with buffers of their own, which are the draft's span after them.
+// Steps with buffers of their own, whose span each hands back.
 use crate::layout;
-use builder_calls::PlanBuilder;
+use builder_calls::areas::PlanAreas;
 use desk::draft;
-use desk::draft::Draft;
 use format::Format;
 use plan::{Span, Step};
+use refusal::{Answer, Refusal};
 
-// One channel of an input into the buffer of that channel.
-fn patch(
-    draft: Draft,
-    input: u32,
-    channel: u32,
-    dst: Span,
-    indices: &[u32],
-    steps: &mut [u32],
-) -> Draft {
-    if draft::refused(draft) {
-        return draft;
+// Every channel of an input into the buffer of that channel.
+// The channel is what the step names: no list is walked.
+fn patches(areas: &mut PlanAreas<'_>, input: u32, dst: Span) -> Answer {
+    for channel in 0..dst.len {
+        let buffer = areas
+            .builder
+            .buffer(dst, channel as usize, &areas.indices[..])?;
+        areas.step(&[Step::PATCH_MAP, input, channel, buffer])?;
     }
-    let builder = PlanBuilder { plan: draft.plan };
-    match builder.buffer(dst, channel as usize, indices) {
-        Err(r) => draft::asked(draft, Err(r)),
-        Ok(b) => draft::step(draft, &[Step::PATCH_MAP, input, channel, b], steps),
-    }
+    Ok(())
 }
 
-// Every channel of an input into the draft's span.
-fn patches(draft: Draft, input: u32, indices: &[u32], steps: &mut [u32]) -> Draft {
-    let dst = draft.span;
-    let n = dst.len;
-    let mut draft = draft;
-    for channel in 0..n {
-        draft = patch(draft, input, channel, dst, indices, steps);
-    }
-    draft
+// An input of a format.
+pub fn patched(areas: &mut PlanAreas<'_>, input: u32, format: u32) -> Result<Span, Refusal> {
+    let dst = areas.buffers(Format::channels(format))?;
+    patches(areas, input, dst)?;
+    Ok(dst)
 }
 
-// An input of a format, in buffers of its own, which are the draft's span then.
-pub fn patched(
-    draft: Draft,
-    input: u32,
-    format: u32,
-    indices: &mut [u32],
-    steps: &mut [u32],
-) -> Draft {
-    let draft = draft::buffers(draft, Format::channels(format), indices);
-    patches(draft, input, &indices[..], steps)
-}
-
-// A Gain from the draft's span to buffers of its own, which are the draft's span then.
+// A Gain of `src`.
 pub fn level(
-    draft: Draft,
+    areas: &mut PlanAreas<'_>,
     id: u32,
     gain: f32,
     ramp: u32,
     safe: u32,
-    indices: &mut [u32],
-    floats: &mut [f32],
-    words: &mut [u32],
-    steps: &mut [u32],
-) -> Draft {
-    let src = draft.span;
-    let draft = draft::buffers(draft, src.len as usize, indices);
-    let dst = draft.span;
-    let gains = [gain; layout::STRIP_GAINS];
-    let draft = draft::node(draft, id, &gains, ramp, safe, floats, words);
-    let node = draft.node;
-    draft::step(
-        draft,
-        &[Step::GAIN_MAP, node, src.start, src.len, dst.start, dst.len],
-        steps,
-    )
+    src: Span,
+) -> Result<Span, Refusal> {
+    let dst = areas.buffers(src.len as usize)?;
+    let node = areas.node(id, &[gain; layout::STRIP_GAINS], ramp, safe)?;
+    areas.step(&[Step::GAIN_MAP, node, src.start, src.len, dst.start, dst.len])?;
+    Ok(dst)
 }
 
-// A Matrix from the draft's span to `rows` buffers of its own, which are the draft's span then.
+// A Matrix of `src`, of as many rows.
+// The gains are rows times columns: their length does not say how many rows there are.
 pub fn matrix(
-    draft: Draft,
+    areas: &mut PlanAreas<'_>,
     id: u32,
     rows: usize,
     gains: &[f32],
-    indices: &mut [u32],
-    floats: &mut [f32],
-    words: &mut [u32],
-    steps: &mut [u32],
-) -> Draft {
-    let src = draft.span;
-    let draft = draft::buffers(draft, rows, indices);
-    let dst = draft.span;
-    let draft = draft::node(draft, id, gains, draft::FADE, 0, floats, words);
-    let node = draft.node;
-    draft::step(
-        draft,
-        &[
-            Step::MATRIX_MAP,
-            node,
-            src.start,
-            src.len,
-            dst.start,
-            dst.len,
-        ],
-        steps,
-    )
+    src: Span,
+) -> Result<Span, Refusal> {
+    let dst = areas.buffers(rows)?;
+    let node = areas.node(id, gains, draft::FADE, 0)?;
+    areas.step(&[
+        Step::MATRIX_MAP,
+        node,
+        src.start,
+        src.len,
+        dst.start,
+        dst.len,
+    ])?;
+    Ok(dst)
 }

@@ -1,103 +1,53 @@
 // The strips: an input each, its level, the band's insert before it, and behind it the singer's panner and the band's width.
 use crate::layout::Strip;
 use crate::{inserts, layout, steps};
+use builder_calls::areas::PlanAreas;
 use desk::draft::Draft;
-use desk::{draft, gains};
+use desk::gains;
+use plan::Span;
+use refusal::{Answer, Refusal};
 
 // The singer's panner, to the left at first.
-fn panned(
-    draft: Draft,
-    indices: &mut [u32],
-    floats: &mut [f32],
-    words: &mut [u32],
-    steps: &mut [u32],
-) -> Draft {
+fn panned(areas: &mut PlanAreas<'_>, src: Span) -> Result<Span, Refusal> {
     let mut pan = [0.0f32; 2];
-    let answer = gains::pan(-0.5, &mut pan);
-    let draft = draft::asked(draft, answer);
-    steps::matrix(draft, layout::PAN, 2, &pan, indices, floats, words, steps)
+    gains::pan(-0.5, &mut pan)?;
+    steps::matrix(areas, layout::PAN, 2, &pan, src)
 }
 
 // The band's width, unchanged at first.
-fn widened(
-    draft: Draft,
-    indices: &mut [u32],
-    floats: &mut [f32],
-    words: &mut [u32],
-    steps: &mut [u32],
-) -> Draft {
+fn widened(areas: &mut PlanAreas<'_>, src: Span) -> Result<Span, Refusal> {
     let mut width = [0.0f32; 4];
-    let answer = gains::width(1.0, &mut width);
-    let draft = draft::asked(draft, answer);
-    steps::matrix(
-        draft,
-        layout::WIDTH,
-        2,
-        &width,
-        indices,
-        floats,
-        words,
-        steps,
-    )
+    gains::width(1.0, &mut width)?;
+    steps::matrix(areas, layout::WIDTH, 2, &width, src)
 }
 
 // What a strip has behind its level.
-fn placed(
-    draft: Draft,
-    line: usize,
-    indices: &mut [u32],
-    floats: &mut [f32],
-    words: &mut [u32],
-    steps: &mut [u32],
-) -> Draft {
+fn placed(areas: &mut PlanAreas<'_>, line: usize, src: Span) -> Result<Span, Refusal> {
     match line {
-        layout::SINGER => panned(draft, indices, floats, words, steps),
-        layout::BAND => widened(draft, indices, floats, words, steps),
-        _ => draft,
+        layout::SINGER => panned(areas, src),
+        layout::BAND => widened(areas, src),
+        _ => Ok(src),
     }
 }
 
 // An input, its insert and its level.
-fn input(
-    draft: Draft,
-    line: usize,
-    indices: &mut [u32],
-    coefficients: &mut [f32],
-    floats: &mut [f32],
-    words: &mut [u32],
-    steps: &mut [u32],
-) -> Draft {
+fn input(draft: &mut Draft<'_>, line: usize) -> Result<Span, Refusal> {
     let Strip(id, input, format, _, gain, ramp, safe) = layout::strip_at(line);
-    let draft = steps::patched(draft, input, format, indices, steps);
-    let draft = inserts::made(draft, line, indices, coefficients, floats, words, steps);
-    steps::level(draft, id, gain, ramp, safe, indices, floats, words, steps)
+    let src = steps::patched(&mut draft.areas, input, format)?;
+    let src = inserts::made(draft, line, src)?;
+    steps::level(&mut draft.areas, id, gain, ramp, safe, src)
 }
 
-fn strip(
-    draft: Draft,
-    line: usize,
-    indices: &mut [u32],
-    coefficients: &mut [f32],
-    floats: &mut [f32],
-    words: &mut [u32],
-    steps: &mut [u32],
-) -> Draft {
-    let draft = input(draft, line, indices, coefficients, floats, words, steps);
-    let draft = placed(draft, line, indices, floats, words, steps);
-    draft::with_line(draft, line, draft.span)
+fn strip(draft: &mut Draft<'_>, line: usize) -> Answer {
+    let src = input(draft, line)?;
+    let span = placed(&mut draft.areas, line, src)?;
+    draft.lines.set(line, span);
+    Ok(())
 }
 
-pub fn all(
-    draft: Draft,
-    indices: &mut [u32],
-    coefficients: &mut [f32],
-    floats: &mut [f32],
-    words: &mut [u32],
-    steps: &mut [u32],
-) -> Draft {
-    let mut draft = draft;
+pub fn all(draft: &mut Draft<'_>) -> Answer {
     for line in 0..layout::STRIPS {
-        draft = strip(draft, line, indices, coefficients, floats, words, steps);
+        strip(draft, line)?;
     }
-    draft
+    Ok(())
 }

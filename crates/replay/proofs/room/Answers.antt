@@ -1,5 +1,5 @@
 -- `replay::room` meets its contract: by a law, since computing the list would be long. Assumes nothing.
-use Rattle.replay.proofs.Fronts.{zeros}
+use Rattle.replay.proofs.Rooms.{zeros}
 use Rattle.replay.proofs.room.Goals as goal
 
 pub returns : goal.returns

@@ -1,9 +1,0 @@
--- `show::overview::outputs` meets its contract. What is left of the slots falls with each turn. Assumes nothing.
-use Prim.Native.Nat.{◌-◌, ◌≤◌}
-use Rattle.show.proofs.overview.outputs.Given as goal
-
-abbrev pub invariant-loop-slot : goal.invariant-loop-slot
-invariant-loop-slot l = l.slot ≤ 11
-
-abbrev pub decreases-loop-slot : goal.decreases-loop-slot
-decreases-loop-slot l = 11 - l.slot
