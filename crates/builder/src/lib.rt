@@ -26,6 +26,7 @@ impl Growth {
 }
 
 // How many places each area has that a call is lent.
+// Of areas, where `Limits` of crate `plan` is of counts.
 #[derive(Clone, Copy, Debug, PartialEq, Eq)]
 pub struct Lengths {
     pub indices: usize,

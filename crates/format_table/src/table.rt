@@ -35,6 +35,7 @@ fn size(src: u32, dst: u32) -> usize
 
 impl<'a> Table<'a> {
     // The gains that the entries need, of those that there are. Their sum is never above that.
+    // It stops where the sum is past what is lent.
     #[tactic(auto, using(crate::proofs::Tables::entry_steps))]
     fn gains_needed(self) -> Option<usize>
         ensures { result ≡ needs_of (needed self.entry.pairs.now (entries self.entry.pairs.now)) (length self.entry.gains.now) }

@@ -122,6 +122,7 @@ pub fn lookup<'a>(directory: &[u32], samples: &'a [f32], input: u32, channel: u3
 }
 
 // One of the first n entries has a part past m samples. Requires the words of all n.
+// From the last entry down, as the definition goes.
 fn some_past(directory: &[u32], m: usize, n: usize) -> bool
     requires { n * entry_words ≤ length directory.now }
     ensures { result ≡ some_past directory.now m n }

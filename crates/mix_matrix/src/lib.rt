@@ -63,6 +63,7 @@ fn sum_piece(area: &mut [f32], block: usize, row: Columns, d: usize, j: usize, m
 }
 
 // Samples r to the end of the block of a row, one after another. Requires as `sum_row`, and an r of at most the block.
+// A piece is a place of the block in several buffers of one area, here and below: no list is walked.
 fn sum_last(area: &mut [f32], block: usize, row: Columns, d: usize, r: usize)
     requires row { Row block row.src.now d area.old }
     requires rest { r ≤ block }
@@ -74,7 +75,6 @@ fn sum_last(area: &mut [f32], block: usize, row: Columns, d: usize, r: usize)
 }
 
 // Buffer d, all columns at each piece. Requires sources and d within the area, d none of them, and a block that is not too long.
-// A piece is a place of the block in several buffers of one area: no list is walked.
 fn sum_row(area: &mut [f32], block: usize, row: Columns, d: usize)
     requires row { Row block row.src.now d area.old }
     ensures { area.new ≡ columns block (gain_in row.entry.node) row.entry.v row.entry.src.now d (clear_buffer block d area.old) }

@@ -36,6 +36,7 @@ fn mix_last<M: Mixing>(area: &mut [f32], from: usize, to: usize, m: usize, k: us
 }
 
 // Mixes s into d. Requires two different buffers within the area, and a block that is not too long.
+// A piece is a place of the block in two buffers of one area: no list is walked.
 pub fn mix_into<M: Mixing>(area: &mut [f32], block: usize, s: usize, d: usize, by: M)
     requires { Pair block s d area.old }
     ensures { area.new ≡ put block d (λ k. by_gain (M.mixed by) (M.gain by) k (sample block area.old s k) (sample block area.old d k)) area.old }

@@ -9,6 +9,7 @@ use plan::{Plan, Span};
 use refusal::{Answer, Refusal};
 
 // 0 and 0 where the call was accepted, else the refusal's number and place.
+// The two numbers of a `Span` mean another thing.
 #[repr(C)]
 #[derive(Clone, Copy)]
 pub struct Status {

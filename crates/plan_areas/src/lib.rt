@@ -76,6 +76,7 @@ pub fn short_areas(plan: Plan, areas: &Areas<'_>) -> bool
 // ---- the entries of areas. A lent area may be longer than its entries, so each function gets how many there are, which the plan has, beside the area.
 
 // An entry is n or above.
+// n is what the entries are below, and no count of them.
 pub fn some_from(n: usize, entries: &[u32]) -> bool
     ensures { result ≡ some_from n entries.now }
 {
@@ -84,6 +85,7 @@ pub fn some_from(n: usize, entries: &[u32]) -> bool
 
 // One of the first n nodes has the id. Requires the words of all n.
 // That the words reach past the nodes is a clause of each function that is lent the words alone.
+// From the last node down, as the definition goes.
 pub fn id_among(words: &[u32], n: usize, id: u32) -> bool
     requires { n * node_word_count ≤ length words.now }
     ensures { result ≡ id_among words.now n id }

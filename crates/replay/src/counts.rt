@@ -79,6 +79,7 @@ impl Tally {
         Ok(())
     }
 
+    // The number is what is printed.
     fn by_reason<W: fmt::Write>(&self, f: &mut fmt::Formatter<W>) -> fmt::Result {
         f.write_str("refused calls, by number:\n")?;
         for number in 1..=LAST_REASON {

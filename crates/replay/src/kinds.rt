@@ -64,6 +64,7 @@ impl Kind {
     ];
 
     // How many areas and how many numbers a record of the kind has.
+    // A constant for each case: a table by the number would have to be held to the enum.
     pub fn shape(self) -> (u32, u32) {
         match self {
             Kind::New => (1, 2),

@@ -66,6 +66,7 @@ fn replay(rt: &HostRuntime) -> Result<(), &'static str> {
     file::replay(&bytes[..n])
 }
 
+// The end of the program: nothing above takes what stopped it.
 fn main(rt: HostRuntime) {
     if let Err(why) = replay(&rt) {
         text::print(format_args!("bad data: {why}\n"));

@@ -41,6 +41,7 @@ fn setting_answer(count: usize, id: u32, ramp: u32, floats: usize, words: &[u32]
 }
 
 // The node of an id among the first n. Requires the words of all n.
+// The place is the answer, and not whether there is one.
 fn node_of(words: &[u32], n: usize, id: u32) -> usize
     requires { n * node_word_count ≤ length words.now }
     ensures { result ≡ node_of words.now n id }

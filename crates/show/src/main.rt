@@ -32,6 +32,7 @@ fn show() -> Answer {
     sheet::rows(&digests, &areas)
 }
 
+// The end of the program: nothing above takes the refusal.
 fn main() {
     if let Err(r) = show() {
         let why = Why(r);

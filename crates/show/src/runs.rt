@@ -31,6 +31,7 @@ pub fn ran(from: u32, areas: &mut Areas, output: &mut [f32]) -> Result<usize, Re
 
 // The digest of each slot, with a block more. The blocks of the plan's Outputs stand one after the other in the output area, in step order and channel
 // by channel.
+// The number is what is handed on: no list is walked.
 fn digest_block(output: &[f32], digests: &mut [u32; layout::SLOTS]) {
     let mut rest = output;
     for i in 0..layout::SLOTS {
@@ -57,6 +58,7 @@ fn block(from: usize, areas: &mut Areas, digests: &mut [u32; layout::SLOTS]) -> 
 }
 
 // The digests of all blocks, or the refusal of a call that should not be refused.
+// The number is what is handed on: no list is walked.
 pub fn blocks(areas: &mut Areas) -> Result<[u32; layout::SLOTS], Refusal> {
     let mut digests = [digest::empty(); layout::SLOTS];
     for i in 0..BLOCKS {

@@ -45,6 +45,7 @@ fn strip(draft: &mut Draft<'_>, line: usize) -> Answer {
     Ok(())
 }
 
+// As in `all` and `folds` of the buses the number is what is handed on, and a closure would be no shorter.
 pub fn all(draft: &mut Draft<'_>) -> Answer {
     for line in 0..layout::STRIPS {
         strip(draft, line)?;

@@ -84,6 +84,7 @@ fn with_frame(digest: u32, blocks: &[f32], k: usize) -> u32
 
 // A block of each channel of a slot, in the order of a sound file: sample 0 of each channel, sample 1 of each, and so on. So the digest of
 // many blocks does not depend on their length.
+// k is a sample of every channel at once: no one list is walked.
 pub fn with_frames(digest: u32, blocks: &[f32]) -> u32
     ensures { result ≡ with_frames 256 (length blocks.now / 256) digest blocks.now 256 }
 {
