@@ -188,40 +188,38 @@ fn row_sum(row: &[f64]) -> f64
 }
 
 #[tactic(auto, using(lists::proofs::Filled::filled_next, lists::proofs::Filled::filled_more, lists::proofs::Filled::filled_all))]
-fn divided(mut m: Matrix, by: f64) -> Matrix
-    ensures { result.entries ≡ divided by m.entries }
+fn divided(m: &mut Matrix, by: f64)
+    ensures { m.new.entries ≡ divided by m.old.entries }
 {
     for x in m.entries.iter_mut() {
         *x = *x / by;
     }
-    m
 }
 
-// A mapping from 3.0 or wider into fewer channels, divided, where asked, by its largest row sum, if that is above 1. Not inlined, so that its
-// copies of the matrix are not on the stack while the mapping folds. Requires at most 12 rows and columns.
+// A mapping from 3.0 or wider into fewer channels, divided, where asked, by its largest row sum, if that is above 1: where it lies, since a matrix
+// that is handed back needs `memmove` of C. Not inlined, so that nothing of it is on the stack while the mapping folds. Requires at most 12 rows and columns.
 #[tactic(auto, using(crate::proofs::Rows::row_steps), unfolding(crate::specs::Width::normalised))]
 #[inline(never)]
-fn normalised(m: Matrix, rows: usize, columns: usize, normalise: bool) -> Matrix
+fn normalised(m: &mut Matrix, rows: usize, columns: usize, normalise: bool)
     requires { (rows ≤ 12) × (columns ≤ 12) }
-    ensures { result.entries ≡ normalised normalise rows columns m.entries }
+    ensures { m.new.entries ≡ normalised normalise rows columns m.old.entries }
 {
     if !normalise {
-        return m;
+        return;
     }
     if columns <= 2 {
-        return m;
+        return;
     }
     if columns <= rows {
-        return m;
+        return;
     }
     let mut most = 0.0;
     for row in m.entries[..rows * columns].chunks_exact(columns) {
         most = larger(most, row_sum(row));
     }
     if 1.0 < most {
-        return divided(m, most);
+        divided(m, most);
     }
-    m
 }
 
 // The entries, as f32. Requires room for them.
@@ -269,7 +267,8 @@ pub fn width_matrix(
     width_answer(src, dst, gains, out.len())?;
     let columns = Format::channels(src);
     let rows = Format::channels(dst);
-    let m = normalised(mapping(src, dst, gains), rows, columns, normalise);
+    let mut m = mapping(src, dst, gains);
+    normalised(&mut m, rows, columns, normalise);
     put(&m.entries[..rows * columns], out);
     Ok(())
 }

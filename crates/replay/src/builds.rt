@@ -16,9 +16,11 @@ pub fn spanned(record: Record<'_>, i: u8, answer: Result<Span, Refusal>, after: 
 
 // Areas: the record after. Numbers: the block.
 pub fn new(record: Record<'_>) -> Compared {
-    let block = record.size(7);
-    let made = compare::accepted(record, PlanBuilder::new(block))?;
-    let builder = made.unwrap_or(PlanBuilder::empty(block));
+    let (answer, builder) = match PlanBuilder::new(record.size(7)) {
+        Ok(builder) => (Ok(()), builder),
+        Err(block) => (Err(block.refusal), block.builder),
+    };
+    compare::accepted(record, answer)?;
     compare::plan(record, 0, builder.plan)
 }
 

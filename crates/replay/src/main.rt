@@ -59,11 +59,16 @@ fn named(rt: &HostRuntime) -> Option<File> {
     opened(rt, &name[..length])
 }
 
+// The room is in a function of its own, so that it is made where there is a file alone.
+fn read(file: &mut File) -> Result<(), &'static str> {
+    let mut bytes = room();
+    let n = read_full(file, &mut bytes);
+    file::replay(&bytes[..n])
+}
+
 fn replay(rt: &HostRuntime) -> Result<(), &'static str> {
     let mut file = named(rt).ok_or("no file that can be read is named")?;
-    let mut bytes = room();
-    let n = read_full(&mut file, &mut bytes);
-    file::replay(&bytes[..n])
+    read(&mut file)
 }
 
 // The end of the program: nothing above takes what stopped it.

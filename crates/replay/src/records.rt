@@ -12,6 +12,10 @@ pub enum Stop {
     NotWhole {
         i: u32,
     },
+    // Of the number 0, with no area and no number. It is whole, but of no call.
+    NoCall {
+        i: u32,
+    },
     Differs {
         i: u32,
         kind: Kind,
@@ -23,6 +27,8 @@ impl fmt::Display for Stop {
     fn fmt<W: fmt::Write>(&self, f: &mut fmt::Formatter<W>) -> fmt::Result {
         match *self {
             Stop::NotWhole { i } => write!(f, "bad data: record {i} is not whole\n"),
+            // As a difference of the last call, whose name stands for a number that no call has.
+            Stop::NoCall { i } => write!(f, "\ndifference in record {i}, {}\n", Kind::ToF32),
             Stop::Differs {
                 i,
                 kind,
@@ -72,6 +78,9 @@ fn compared(kind: Kind, record: Record<'_>) -> Compared {
 
 // Record i, from 1.
 fn one(record: Record<'_>, i: u32) -> Result<Kind, Stop> {
+    if record.word(0) == 0 && record.fits(0, 0) {
+        return Err(Stop::NoCall { i });
+    }
     let kind = kind_of(record).ok_or(Stop::NotWhole { i })?;
     compared(kind, record).map_err(|difference| Stop::Differs {
         i,

@@ -11,8 +11,8 @@ use Rattle.format_fold.proofs.divided.Goals as goal
 pub loop-x-preserved : goal.loop-x-preserved
 loop-x-preserved c =
     -- the matrix has 144 entries
-    let full : length c.args.m.entries ≡ 144 = search rules in
-    let xs = c.args.m.entries in
+    let full : length c.args.m.now.entries ≡ 144 = search rules in
+    let xs = c.args.m.now.entries in
     let i = c.loop-x.x-index in
     let f : Float → Float = λ x. div binary64 x c.args.by in
     let n : i < length xs = omega (arith, full) in
