@@ -20,6 +20,22 @@ pub struct PlanBuilder {
     pub plan: Plan,
 }
 
+// A block that is refused, and the builder that there is even so: of the empty plan with that block in it, so that later calls refuse it too.
+#[derive(Clone, Copy)]
+pub struct RefusedBlock {
+    pub refusal: Refusal,
+    pub builder: PlanBuilder,
+}
+
+// For a caller that goes no further.
+impl From<RefusedBlock> for Refusal {
+    ghost from_gives = { λ block made. made ≡ block.refusal };
+
+    fn from(block: RefusedBlock) -> Refusal {
+        block.refusal
+    }
+}
+
 impl PlanBuilder {
     // An empty plan for blocks of `block` samples, whether there can be one or not.
     pub fn empty(block: usize) -> PlanBuilder
@@ -37,12 +53,15 @@ impl PlanBuilder {
         PlanBuilder { plan }
     }
 
-    // The same, where there can be one.
-    pub fn new(block: usize) -> Result<PlanBuilder, Refusal>
+    // The same, beside the refusal where there can be none.
+    pub fn new(block: usize) -> Result<PlanBuilder, RefusedBlock>
         ensures { result ≡ new_builder block }
     {
-        builder_answers::new_answer(block)?;
-        Ok(PlanBuilder::empty(block))
+        let builder = PlanBuilder::empty(block);
+        match builder_answers::new_answer(block) {
+            Ok(()) => Ok(builder),
+            Err(refusal) => Err(RefusedBlock { refusal, builder }),
+        }
     }
 
     // n new buffers, however long the area is: fresh numbers, and index entries that name them.

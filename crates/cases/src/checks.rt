@@ -65,7 +65,7 @@ fn taken<T: Drop>(answer: Result<T, Refusal>) -> Answered<&'static str> {
 
 // Case 11: a block.
 pub fn block(n: usize) -> Answered<&'static str> {
-    taken(PlanBuilder::new(n))
+    taken(PlanBuilder::new(n).map_err(|block| block.refusal))
 }
 
 // Case 11: the plan check of one step, with 14 buffers and a node of 24 values, in areas that no builder laid out.

@@ -4,19 +4,42 @@
 
 ghost use Rattle.std.specs.Prelude.{◌≡◌, ◌*◌, ◌≤◌, length};
 ghost use Rattle.node.specs.Sizes.{node_word_count};
-ghost use Rattle.builder.specs.Sums.{ids_taken, lengths};
-ghost use Rattle.builder_calls.specs.Lent.{state_of};
+ghost use Rattle.builder.specs.Sums.{ids_taken};
 ghost use Rattle.insert.specs.Insert.{insert_growth, insert_ids, return_bad, insert_answer};
+ghost use Rattle.insert_answers.specs.Lent.{lengths_of};
 
-use builder::Growth;
+use builder::{Growth, Lengths};
 use builder_answers::limits::{grows_past, limits_answer};
-use builder_calls::areas::PlanAreas;
 use format::Format;
 use insert::{InsertIds, InsertPoint, InsertReturn};
 use node::Node;
-use plan::Limits;
+use plan::{Limits, Plan};
 use plan_steps::span_past;
 use refusal::{Answer, Reason};
+
+// What the tests look at of the five areas: their lengths, and the node words themselves.
+#[derive(Clone, Copy)]
+pub struct Lent<'a> {
+    pub indices: usize,
+    pub coefficients: usize,
+    pub floats: usize,
+    pub words: &'a [u32],
+    pub steps: usize,
+}
+
+impl Lent<'_> {
+    fn lengths(self) -> Lengths
+        ensures { result ≡ lengths_of self.entry }
+    {
+        Lengths {
+            indices: self.indices,
+            coefficients: self.coefficients,
+            node_floats: self.floats,
+            node_words: self.words.len(),
+            step_words: self.steps,
+        }
+    }
+}
 
 // The last channel that four bytes hold.
 const MAX_CHANNEL: usize = 4_294_967_295;
@@ -89,8 +112,8 @@ fn insert_ids_taken(words: &[u32], n: usize, returns: bool, ids: InsertIds) -> b
 
 // The answer to an insert: 16; with a return 18; 4; then, of the whole, 5, 2, 8, 10.
 #[tactic(auto, using(format::proofs::Labels::channels_le, format::proofs::Labels::channels_least), unfolding(insert::specs::Insert::insert_answer))]
-pub fn insert_answer(limits: Limits, areas: &PlanAreas<'_>, insert: InsertPoint) -> Answer
-    ensures { result ≡ insert_answer limits areas.now.builder.plan insert (lengths (state_of areas.now)) areas.now.words.now }
+pub fn insert_answer(limits: Limits, plan: Plan, insert: InsertPoint, lent: Lent<'_>) -> Answer
+    ensures { result ≡ insert_answer limits plan insert (lengths_of lent.entry) lent.entry.words.now }
 {
     if Format::COUNT <= insert.format {
         return Err(Reason::NoFormat.into());
@@ -100,16 +123,15 @@ pub fn insert_answer(limits: Limits, areas: &PlanAreas<'_>, insert: InsertPoint)
     if returns & return_bad(n, insert.back) {
         return Err(Reason::BadReturn.into());
     }
-    let plan = areas.builder.plan;
     if span_past(plan.indices, insert.src) {
         return Err(Reason::OutsideTable.into());
     }
     let growth = insert_growth(returns, n);
     limits_answer(limits, plan, growth)?;
-    if grows_past(plan, growth, areas.lengths()) {
+    if grows_past(plan, growth, lent.lengths()) {
         return Err(Reason::ShortArea.into());
     }
-    if insert_ids_taken(areas.words, plan.nodes, returns, insert.ids) {
+    if insert_ids_taken(lent.words, plan.nodes, returns, insert.ids) {
         return Err(Reason::IdTaken.into());
     }
     if insert.ramp > Node::MAX_RAMP {

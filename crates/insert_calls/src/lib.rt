@@ -8,13 +8,31 @@ mod wiring;
 ghost use Rattle.std.specs.Prelude.{◌≡◌};
 ghost use Rattle.plan.specs.Limits.{unit_limits};
 ghost use Rattle.insert.specs.Insert.{insert_span, inserted};
+ghost use Rattle.builder.specs.Sums.{lengths};
 ghost use Rattle.builder_calls.specs.Lent.{state_of, SameAreas};
+ghost use Rattle.insert_answers.specs.Lent.{lengths_of};
 
 use builder_calls::areas::PlanAreas;
 use insert::InsertPoint;
+use insert_answers::{Lent, insert_answer};
 use plan::{Limits, Span};
 use refusal::Refusal;
 use wiring::{Wiring, add_sent};
+
+// The areas, as the tests look at them.
+fn lent<'a>(areas: &'a PlanAreas<'_>) -> Lent<'a>
+    ensures lengths { lengths_of result ≡ lengths (state_of areas.now) }
+    ensures words { result.words.now ≡ areas.now.words.now }
+{
+    let n = areas.lengths();
+    Lent {
+        indices: n.indices,
+        coefficients: n.coefficients,
+        floats: n.node_floats,
+        words: areas.words,
+        steps: n.step_words,
+    }
+}
 
 // All or nothing. The answer is the span that the strip goes on with: the source span, or with a return that of the insert's output.
 pub fn insert(areas: &mut PlanAreas<'_>, insert: InsertPoint) -> Result<Span, Refusal>
@@ -23,7 +41,7 @@ pub fn insert(areas: &mut PlanAreas<'_>, insert: InsertPoint) -> Result<Span, Re
     ensures areas { SameAreas areas.old areas.new }
 {
     let before = areas.builder.plan;
-    insert_answers::insert_answer(Limits::UNIT, areas, insert)?;
+    insert_answer(Limits::UNIT, before, insert, lent(areas))?;
     add_sent(areas, insert);
     if insert.returns {
         let wiring = Wiring { before, insert };

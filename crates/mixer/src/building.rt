@@ -20,8 +20,10 @@ use plan::{Plan, Span};
 pub extern "C" fn mixer_new(block: usize) -> PlanReply
     ensures { result ≡ plan_reply (empty_plan block) (new_answer block) }
 {
-    let builder = PlanBuilder::empty(block);
-    plan_reply(builder.plan, PlanBuilder::new(block).map(|_| ()))
+    match PlanBuilder::new(block) {
+        Ok(builder) => plan_reply(builder.plan, Ok(())),
+        Err(refused) => plan_reply(refused.builder.plan, Err(refused.refusal)),
+    }
 }
 
 #[unsafe(no_mangle)]

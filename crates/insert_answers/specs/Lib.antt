@@ -1,0 +1,2 @@
+-- the areas of an insert's tests
+pub mod Lent
