@@ -12,8 +12,8 @@ use Rattle.refusal.specs.declared.Refusal.{Refusal}
 abbrev pub stereo : ℕ
 stereo = 1
 
-abbrev pub answer_of : Result (List Float) Refusal → Answer
-answer_of (Ok m) = Ok tt
+abbrev pub answer_of : {A : Type 0} → Result A Refusal → Answer
+answer_of (Ok _) = Ok tt
 answer_of (Err r) = Err r
 
 -- two rows of two columns, rounded, at the front of an area

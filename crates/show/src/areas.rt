@@ -1,5 +1,6 @@
 // The plan of the layout with its areas, each with room for more than the layout needs.
 use crate::layout;
+use builder_calls::PlanBuilder;
 use node::Node;
 use plan::Plan;
 use refusal::{Answer, Refusal};
@@ -17,10 +18,10 @@ pub struct Areas {
 }
 
 impl Areas {
-    // Areas of zeros, with a plan.
-    pub fn of(plan: Plan) -> Areas {
+    // Areas of zeros, with an empty plan.
+    pub fn new() -> Areas {
         Areas {
-            plan,
+            plan: PlanBuilder::empty(signals::BLOCK).plan,
             indices: [0; layout::INDICES],
             coefficients: [0.0; layout::COEFFICIENTS],
             floats: [0.0; layout::NODES * Node::FLOATS],

@@ -1,12 +1,11 @@
 // The layout's tables as a plan, in the order of the signal: strips, buses, sends, folds, outputs.
 use crate::areas::Areas;
 use crate::{buses, strips};
-use builder_calls::PlanBuilder;
 use builder_calls::areas::PlanAreas;
-use desk::draft::{Draft, Lines};
-use refusal::{Answer, Refusal};
+use desk::draft::{Draft, DraftAreas};
+use refusal::Answer;
 
-fn lay_out(draft: &mut Draft<'_>) -> Answer {
+fn lay_out(draft: &mut DraftAreas<'_>) -> Answer {
     strips::all(draft)?;
     buses::all(draft)?;
     buses::sends(draft)?;
@@ -14,10 +13,9 @@ fn lay_out(draft: &mut Draft<'_>) -> Answer {
     buses::outputs(draft)
 }
 
-// The whole layout, ready to run.
-pub fn laid_out() -> Result<Areas, Refusal> {
-    let builder = PlanBuilder::new(signals::BLOCK)?;
-    let mut laid = Areas::of(builder.plan);
+// The whole layout, ready to run, in areas of zeros. They are lent, since areas that are handed back are on the stack once more in each function on their way.
+pub fn laid_out(laid: &mut Areas) -> Answer {
+    let (builder, so_far) = Draft::new(signals::BLOCK);
     let areas = PlanAreas {
         builder,
         indices: &mut laid.indices,
@@ -26,10 +24,9 @@ pub fn laid_out() -> Result<Areas, Refusal> {
         words: &mut laid.words,
         steps: &mut laid.steps,
     };
-    let lines = Lines::new();
-    let mut draft = Draft { areas, lines };
+    let mut draft = DraftAreas { areas, so_far };
     lay_out(&mut draft)?;
     draft.finish(&mut laid.buffers)?;
     laid.plan = draft.areas.builder.plan;
-    Ok(laid)
+    Ok(())
 }

@@ -3,8 +3,7 @@ ghost use Rattle.std.specs.Prelude.{◌≤◌};
 
 use crate::layout::{Send, Slot, Source};
 use crate::{layout, steps};
-use builder_calls::areas::PlanAreas;
-use desk::draft::Draft;
+use desk::draft::DraftAreas;
 use desk::{draft, gains};
 use format::Format;
 use plan::{Span, Step};
@@ -14,19 +13,19 @@ use refusal::{Answer, Refusal};
 const ENTRIES: usize = Format::MAX_CHANNELS * Format::MAX_CHANNELS;
 
 // A bus of sends: buffers of silence, to which each of them adds.
-fn cleared(draft: &mut Draft<'_>, slot: usize) -> Answer {
+fn cleared(draft: &mut DraftAreas<'_>, slot: usize) -> Answer {
     let Slot(format, Source::Sends) = layout::slot_at(slot) else {
         return Ok(());
     };
-    let dst = draft.areas.buffers(Format::channels(format))?;
-    draft.areas.step(&[Step::CLEAR_MAP, dst.start, dst.len])?;
-    draft.lines.set(layout::bus(slot), dst);
+    let dst = draft.buffers(Format::channels(format))?;
+    draft.step(&[Step::CLEAR_MAP, dst.start, dst.len])?;
+    draft.so_far.lines.set(layout::bus(slot), dst);
     Ok(())
 }
 
 // The buses of sends, before any send.
 // Here and below the number is what is handed on: no list is walked.
-pub fn all(draft: &mut Draft<'_>) -> Answer {
+pub fn all(draft: &mut DraftAreas<'_>) -> Answer {
     for slot in 0..layout::BUSES {
         cleared(draft, slot)?;
     }
@@ -41,24 +40,24 @@ fn entry_count(src: u32, dst: u32) -> usize
 }
 
 // The weights of a send, from one line's format to another's.
-fn weights(areas: &mut PlanAreas<'_>, from: usize, to: usize) -> Result<Span, Refusal> {
+fn weights(draft: &mut DraftAreas<'_>, from: usize, to: usize) -> Result<Span, Refusal> {
     let src = layout::line_format(from);
     let dst = layout::line_format(to);
     let mut entries = [0.0f32; ENTRIES];
-    gains::folded(src, dst, &mut entries)?;
+    draft.asked(gains::folded(src, dst, &mut entries))?;
     let n = entry_count(src, dst);
-    areas.coefficients(&entries[..n])
+    draft.coefficients(&entries[..n])
 }
 
 // A line into a bus.
-fn send(draft: &mut Draft<'_>, send: Send) -> Answer {
+fn send(draft: &mut DraftAreas<'_>, send: Send) -> Answer {
     let Send(id, line, slot, gain) = send;
     let to = layout::bus(slot);
-    let src = draft.lines.get(line);
-    let dst = draft.lines.get(to);
-    let w = weights(&mut draft.areas, line, to)?;
-    let node = draft.areas.node(id, &[gain], draft::FADE, 0)?;
-    draft.areas.step(&[
+    let src = draft.so_far.lines.get(line);
+    let dst = draft.so_far.lines.get(to);
+    let w = weights(draft, line, to)?;
+    let node = draft.node(id, &[gain], draft::FADE, 0)?;
+    draft.step(&[
         Step::SEND_MAP,
         node,
         src.start,
@@ -70,7 +69,7 @@ fn send(draft: &mut Draft<'_>, send: Send) -> Answer {
     ])
 }
 
-pub fn sends(draft: &mut Draft<'_>) -> Answer {
+pub fn sends(draft: &mut DraftAreas<'_>) -> Answer {
     for &row in &layout::SEND_TABLE {
         send(draft, row)?;
     }
@@ -78,24 +77,24 @@ pub fn sends(draft: &mut Draft<'_>) -> Answer {
 }
 
 // A bus that is the fold of another: a Matrix with the gains from that one's format to its own.
-fn folded(draft: &mut Draft<'_>, slot: usize) -> Answer {
+fn folded(draft: &mut DraftAreas<'_>, slot: usize) -> Answer {
     let Slot(format, Source::Fold(from, id)) = layout::slot_at(slot) else {
         return Ok(());
     };
     let from = layout::bus(from);
     let src = layout::line_format(from);
     let mut entries = [0.0f32; ENTRIES];
-    gains::folded(src, format, &mut entries)?;
+    draft.asked(gains::folded(src, format, &mut entries))?;
     let n = entry_count(src, format);
-    let line = draft.lines.get(from);
+    let line = draft.so_far.lines.get(from);
     let rows = Format::channels(format);
-    let span = steps::matrix(&mut draft.areas, id, rows, &entries[..n], line)?;
-    draft.lines.set(layout::bus(slot), span);
+    let span = steps::matrix(draft, id, rows, &entries[..n], line)?;
+    draft.so_far.lines.set(layout::bus(slot), span);
     Ok(())
 }
 
 // A loop of its own, behind the sends: one that takes what it does to each as a closure is no shorter than the three.
-pub fn folds(draft: &mut Draft<'_>) -> Answer {
+pub fn folds(draft: &mut DraftAreas<'_>) -> Answer {
     for slot in 0..layout::BUSES {
         folded(draft, slot)?;
     }
@@ -103,13 +102,11 @@ pub fn folds(draft: &mut Draft<'_>) -> Answer {
 }
 
 // The Outputs behind the insert's.
-pub fn outputs(draft: &mut Draft<'_>) -> Answer {
+pub fn outputs(draft: &mut DraftAreas<'_>) -> Answer {
     for i in 1..layout::SLOTS {
         let slot = layout::output_slot(i);
-        let src = draft.lines.get(layout::output_line(slot));
-        draft
-            .areas
-            .step(&[Step::OUTPUT_MAP, src.start, src.len, slot as u32])?;
+        let src = draft.so_far.lines.get(layout::output_line(slot));
+        draft.step(&[Step::OUTPUT_MAP, src.start, src.len, slot as u32])?;
     }
     Ok(())
 }

@@ -1,7 +1,7 @@
 // The insert on the band's strip, before its level: an effects box of the house, with a slot and an input of its own.
 use crate::{layout, names};
 use desk::draft;
-use desk::draft::Draft;
+use desk::draft::DraftAreas;
 use format::Format;
 use insert::{InsertIds, InsertPoint, InsertReturn};
 use plan::Span;
@@ -47,7 +47,7 @@ fn point(src: Span) -> InsertPoint {
 }
 
 // The insert on these buffers, where the strip is the band's: the buffers that the strip goes on with.
-pub fn made(draft: &mut Draft<'_>, line: usize, src: Span) -> Result<Span, Refusal> {
+pub fn made(draft: &mut DraftAreas<'_>, line: usize, src: Span) -> Result<Span, Refusal> {
     if line != layout::BAND {
         return Ok(src);
     }

@@ -18,13 +18,15 @@ mod stand_in;
 mod steps;
 mod strips;
 
+use areas::Areas;
 use refusal::Answer;
 use refused::Why;
 
 fn show() -> Answer {
     text::print("Sezhqolma: the default show of a theatre unit\n");
     overview::tables();
-    let mut areas = build::laid_out()?;
+    let mut areas = Areas::new();
+    build::laid_out(&mut areas)?;
     overview::counts(areas.plan, areas.clean()?);
     overview::run();
     let digests = runs::blocks(&mut areas)?;

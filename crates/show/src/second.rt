@@ -18,7 +18,8 @@ fn of_safe(areas: &Areas) -> u32 {
 // The nodes of a second layout, which is not run, adopt the old ones of their numbers, and a line says what they took. All are named, the announcement's
 // too, which is the only safe one: that there is one shows in how many start elsewhere.
 pub fn adopts(old: &Areas) -> Answer {
-    let mut areas = build::laid_out()?;
+    let mut areas = Areas::new();
+    build::laid_out(&mut areas)?;
     let nodes = areas.plan.nodes;
     let built = of_safe(&areas);
     let old_nodes = Nodes {
