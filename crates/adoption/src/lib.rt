@@ -128,9 +128,9 @@ pub fn adopt(
     pairs: &[u32],
     ramp: u32,
 ) -> Answer
-    ensures answer { result ≡ adoption_answer (lent nodes node_floats.old node_words.old) (lent_by old.entry) pairs.now ramp }
-    ensures floats { node_floats.new ≡ adoption_floats (lent nodes node_floats.old node_words.old) (lent_by old.entry) pairs.now ramp }
-    ensures words { node_words.new ≡ adoption_words (lent nodes node_floats.old node_words.old) (lent_by old.entry) pairs.now ramp }
+    ensures answer { result ≡ adoption_answer (lent nodes node_floats.old node_words.old) (lent old.entry.count old.entry.floats.now old.entry.words.now) pairs.now ramp }
+    ensures floats { node_floats.new ≡ adoption_floats (lent nodes node_floats.old node_words.old) (lent old.entry.count old.entry.floats.now old.entry.words.now) pairs.now ramp }
+    ensures words { node_words.new ≡ adoption_words (lent nodes node_floats.old node_words.old) (lent old.entry.count old.entry.floats.now old.entry.words.now) pairs.now ramp }
 {
     let new = Nodes {
         count: nodes,

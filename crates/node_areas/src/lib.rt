@@ -64,6 +64,20 @@ pub fn cur_of(floats: &[f32], n: usize) -> &[f32]
     row(floats, n * Node::FLOATS)
 }
 
+pub fn target_of(floats: &[f32], n: usize) -> &[f32]
+    requires { (n + 1) * node_float_count ≤ length floats.now }
+    ensures { result.now ≡ target_at floats.now n }
+{
+    row(floats, n * Node::FLOATS + TARGET)
+}
+
+pub fn step_of(floats: &[f32], n: usize) -> &[f32]
+    requires { (n + 1) * node_float_count ≤ length floats.now }
+    ensures { result.now ≡ step_at floats.now n }
+{
+    row(floats, n * Node::FLOATS + STEP)
+}
+
 // The rows of node n. Requires areas that reach past it.
 // C lends the two areas one by one: that they reach past the node is a clause of each function, here and below.
 pub fn rows_of<'a>(floats: &'a [f32], words: &[u32], n: usize) -> Rows<'a>
@@ -73,11 +87,10 @@ pub fn rows_of<'a>(floats: &'a [f32], words: &[u32], n: usize) -> Rows<'a>
     ensures step { result.step.now ≡ step_at floats.now n }
     ensures left { result.left ≡ left_at words.now n }
 {
-    let at = n * Node::FLOATS;
     Rows {
-        cur: row(floats, at),
-        step: row(floats, at + STEP),
-        target: row(floats, at + TARGET),
+        cur: cur_of(floats, n),
+        step: step_of(floats, n),
+        target: target_of(floats, n),
         left: left_of(words, n),
     }
 }

@@ -5,7 +5,7 @@ ghost use Rattle.std.specs.Prelude.{◌≡◌, false, [], ◌≤◌, Ok, Some};
 ghost use Rattle.refusal.specs.Tests.{first, refusal};
 ghost use Rattle.plan.specs.Limits.{unit_limits};
 ghost use Rattle.plan.specs.Words.{decoded};
-ghost use Rattle.plan.specs.Areas.{short_lists};
+ghost use Rattle.plan.specs.Areas.{short_lists, areas as lists};
 ghost use Rattle.plan.specs.Check.{step_tests, steps_tests, checked, check_plan};
 ghost use Rattle.plan.specs.Sound.{steps_of};
 ghost use Rattle.plan.specs.Loops.{channels_of, counted};
@@ -125,7 +125,7 @@ pub fn count_channels(plan: Plan, areas: &Areas<'_>) -> Result<usize, Refusal>
 
 // The plan check as a call of its own.
 pub fn check_plan(plan: Plan, areas: &Areas<'_>) -> Answer
-    ensures { result ≡ check_plan plan (areas_of areas.now) }
+    ensures { result ≡ check_plan plan (lists areas.now.indices.now areas.now.coefficients.now areas.now.node_floats.now areas.now.node_words.now areas.now.steps.now areas.now.buffers.now) }
 {
     count_channels(plan, areas)?;
     Ok(())

@@ -57,7 +57,7 @@ pub used_named : (indices : List ℕ) (s d : Span) → Within (length indices) d
 used_named indices s d h es ed = used_sources indices s d es ed h
 
 -- ---- the rows of a node, as the sample loops take them
-rows_values : (floats : List Float) (n m : ℕ) → (n + 1) * node_float_count ≤ length floats → m ≤ max_values → {rows : Rows}
+pub rows_values : (floats : List Float) (n m : ℕ) → (n + 1) * node_float_count ≤ length floats → m ≤ max_values → {rows : Rows}
     → rows.cur.now ≡ cur_at floats n → rows.target.now ≡ target_at floats n → rows.step.now ≡ step_at floats n → Values m rows
 rows_values floats n m r h c t s =
     let l = length_rows floats n r in

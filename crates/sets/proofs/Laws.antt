@@ -61,11 +61,11 @@ module _ (a b : Set) where
         (λ k. rw (past_words a four k, past_words b other_four k) none) (j / 64))
         ∙ bits (get_or a.words (j / 64) 0) (get_or b.words (j / 64) 0) (j % 64)
 
-    pub member_union : (j : ℕ) → member (worded bit_or) j ≡ (member a j || member b j)
-    member_union = member_worded bit_or ◌||◌ refl bit_or_lem
+    pub members_or : (j : ℕ) → member (worded bit_or) j ≡ (member a j || member b j)
+    members_or = member_worded bit_or ◌||◌ refl bit_or_lem
 
-    pub member_without : (j : ℕ) → member (worded cleared) j ≡ (member a j && not (member b j))
-    member_without = member_worded cleared (λ p q. p && not q) refl bit_cleared
+    pub members_cleared : (j : ℕ) → member (worded cleared) j ≡ (member a j && not (member b j))
+    members_cleared = member_worded cleared (λ p q. p && not q) refl bit_cleared
 
 -- ---- one number more
 module _ (s : Set) (i : ℕ) (four : length s.words ≡ set_words) (h : i < set_size) where
@@ -79,9 +79,9 @@ module _ (s : Set) (i : ℕ) (four : length s.words ≡ set_words) (h : i < set_
   same_place j e true q = let g = eqb-true (j % 64) (i % 64) q in sym (eq-eqb j i (omega arith))
   same_place j e false q = sym (ne_eqb j i (λ g. eqb-false (j % 64) (i % 64) q (omega arith)))
 
-  pub member_with : (j : ℕ) → member (record { words = set s.words place more }) j ≡ (member s j || eqb j i)
+  pub members_more : (j : ℕ) → member (record { words = set s.words place more }) j ≡ (member s j || eqb j i)
   unfolding member
-  member_with j = go (eqb (j / 64) place) refl
+  members_more j = go (eqb (j / 64) place) refl
     where
       go : (b : Bool) → eqb (j / 64) place ≡ b
           → bit (get_or (set s.words place more) (j / 64) 0) (j % 64) ≡ (bit (get_or s.words (j / 64) 0) (j % 64) || eqb j i)
@@ -97,6 +97,31 @@ module _ (s : Set) (i : ℕ) (four : length s.words ≡ set_words) (h : i < set_
           ap (λ (w : ℕ). bit w (j % 64)) (get_or-set_other s.words place (j / 64) more 0 n)
           ∙ sym (or-false (bit (get_or s.words (j / 64) 0) (j % 64)))
           ∙ ap (λ (b : Bool). bit (get_or s.words (j / 64) 0) (j % 64) || b) (sym (ne_eqb j i (λ g. n (ap (λ (k : ℕ). k / 64) g))))
+
+-- ---- the same of two sets by their four words, as each set has them
+abbrev pub of_words : ℕ → ℕ → ℕ → ℕ → Set
+of_words w0 w1 w2 w3 = record { words = w0 ∷ w1 ∷ w2 ∷ w3 ∷ [] }
+
+module _ (a0 a1 a2 a3 : ℕ) where
+  abbrev one : Set
+  one = of_words a0 a1 a2 a3
+
+  pub member_with : (i : ℕ) → i < set_size → (j : ℕ)
+      → member (record { words = set one.words (i / 64) (bit_or (get_or one.words (i / 64) 0) (2 ^ (i % 64))) }) j ≡ (member one j || eqb j i)
+  member_with i h = members_more one i refl h
+
+module _ (a0 a1 a2 a3 b0 b1 b2 b3 : ℕ) where
+  abbrev left : Set
+  left = of_words a0 a1 a2 a3
+
+  abbrev right : Set
+  right = of_words b0 b1 b2 b3
+
+  pub member_union : (j : ℕ) → member (of_words (bit_or a0 b0) (bit_or a1 b1) (bit_or a2 b2) (bit_or a3 b3)) j ≡ (member left j || member right j)
+  member_union = members_or left right refl refl
+
+  pub member_without : (j : ℕ) → member (of_words (cleared a0 b0) (cleared a1 b1) (cleared a2 b2) (cleared a3 b3)) j ≡ (member left j && not (member right j))
+  member_without = members_cleared left right refl refl
 
 -- ---- the list of the members
 module _ (s : Set) where

@@ -20,12 +20,12 @@ product_lt k a b ha hb =
 
 -- ---- a block that is stored keeps the length of its area
 
-filled_length : (pitch from at n : ℕ) (area : List Float) → length (filled pitch from at n area) ≡ length area
+pub filled_length : (pitch from at n : ℕ) (area : List Float) → length (filled pitch from at n area) ≡ length area
 unfolding filled
 filled_length pitch from at zero area = refl
 filled_length pitch from at (suc k) area = simp length-set (filled_length pitch from at k area)
 
-played_length : (block from n : ℕ) (area : List Float) → length (played block from n area) ≡ length area
+pub played_length : (block from n : ℕ) (area : List Float) → length (played block from n area) ≡ length area
 unfolding played
 played_length block from zero area = refl
 played_length block from (suc c) area = filled_length (get_or pitches c 0) from (c * block) block (played block from c area) ∙ played_length block from c area

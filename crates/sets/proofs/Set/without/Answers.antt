@@ -1,7 +1,7 @@
 -- `sets::Set::without` meets its contract. Assumes nothing.
 use borrow.Author.Rules.{rules}
-use Rattle.sets.proofs.Laws.{member_without}
+use Rattle.sets.proofs.Laws.{members_cleared}
 use Rattle.sets.proofs.Set.without.Goals as goal
 
 pub returns : goal.returns
-returns c = member_without c.args.self c.args.other (search rules) (search rules)
+returns c = members_cleared c.args.self c.args.other (search rules) (search rules)
