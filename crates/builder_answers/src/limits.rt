@@ -50,7 +50,9 @@ fn too_short(len: usize, count: usize, change: Option<usize>, each: usize) -> bo
     change.is_some_and(|n| past(len / each, count, n))
 }
 
-// Number 2, with areas of these lengths; one that a call adds nothing to is of no matter.
+// Number 2, with areas of these lengths; one that a call adds nothing to is of no matter. Inlined, here and below, so that a call which names one area asks
+// of that one alone.
+#[inline(always)]
 pub fn grows_past(plan: Plan, growth: Growth, lent: Lengths) -> bool
     ensures { result ≡ grows_past plan growth lent }
 {
@@ -62,6 +64,7 @@ pub fn grows_past(plan: Plan, growth: Growth, lent: Lengths) -> bool
 }
 
 // Numbers 5 and 2 of a growth, with areas of these lengths.
+#[inline(always)]
 pub fn growth_answer(limits: Limits, plan: Plan, growth: Growth, lent: Lengths) -> Answer
     ensures { result ≡ first (growth_tests limits plan growth lent []) (Ok tt) }
 {
